@@ -8,14 +8,14 @@ use test_given::catalogs::{joined, one_way};
 use test_given::tables::{bag, two_bags};
 use wh_carry::CarryFault;
 use wh_maint::are_bags;
-use wh_night::{Asked, NoWatch, Served, Watch, are_fit_for, serve_night};
+use wh_night::{Gate, NightRequest, NoWatch, Served, Watch, are_fit_for, serve_night};
 use wh_row::Bag;
 use wh_strategy::check;
 use wh_threads::ThreadBudget;
 
 /// The night over a(x,y) with (1,10) and (2,10), b(y,z) with (10,5) and v, which joins them, beside so many readers; a changes
 /// so, and b by -(10,5) +(10,6). None where it is not what a night asks for.
-pub(crate) fn served<W: Watch + Sync, R: Threads + Wait + Sync>(
+pub(crate) fn served<W: Gate + Watch + Sync, R: Threads + Wait + Sync>(
     rt: &R,
     alloc: Global,
     change: &[(&[i64], i64)],
@@ -45,7 +45,7 @@ pub(crate) fn served<W: Watch + Sync, R: Threads + Wait + Sync>(
         alloc,
         threads: 1,
     };
-    let asked = Asked {
+    let asked = NightRequest {
         budget: &budget,
         catalog: &catalog,
         changes: &changes,

@@ -5,7 +5,7 @@ use std::process::Abort;
 use std::test::Fail;
 use std::thread::Threads;
 use test_given::tables::bag as bag_of;
-use wh_row::{Bag, BagFault, Keyed, Records, RecordsFault};
+use wh_row::{Bag, BagFault, ColumnIndex, Records, RecordsFault};
 use wh_threads::ThreadBudget;
 
 /// Asserts that the bag lists these rows, with these counts, in this order.
@@ -56,7 +56,7 @@ fn rows_rise_cell_by_cell(rt: HostRuntime) -> Result<(), Fail> {
     );
     assert_eq!(rt; bag.total(), 15);
     assert!(rt; !bag.is_table());
-    assert!(rt; !bag.is_width(1));
+    assert!(rt; !bag.has_width(1));
     Ok(())
 }
 
@@ -88,7 +88,7 @@ fn records_in_any_order_add_up(rt: HostRuntime) -> Result<(), Fail> {
     let bag = Bag::from_records(&alone(&rt, rt.alloc()), &records)?;
     assert_lists(&rt, &bag, &[(&[1], 6), (&[2], 5)]);
     assert!(rt; bag.is_table());
-    assert!(rt; bag.is_width(1));
+    assert!(rt; bag.has_width(1));
     Ok(())
 }
 
@@ -142,13 +142,43 @@ fn threads_add_up_records_in_any_order(rt: HostRuntime) -> Result<(), Fail> {
     Ok(())
 }
 
+/// Records whose rows come in no order, with more cells than are sorted as they stand: each row (x mod 5, x mod 7, x, 0) twice.
+fn shuffled_wide(alloc: Global) -> Result<Records, AllocError> {
+    let mut records = Records::new(alloc);
+    for count in [1, 2] {
+        for place in 0..MANY {
+            let x = (place * 7919 % MANY) as i64;
+            records.push(&[x % 5, x % 7, x, 0], count)?;
+        }
+    }
+    Ok(records)
+}
+
+#[test]
+fn threads_add_up_records_of_four_cells(rt: HostRuntime) -> Result<(), Fail> {
+    let records = shuffled_wide(rt.alloc())?;
+    for threads in [1, 2, 16] {
+        let budget = ThreadBudget {
+            rt: &rt,
+            alloc: rt.alloc(),
+            threads,
+        };
+        let bag = Bag::from_records(&budget, &records)?;
+        assert_eq!(&rt; bag.len(), 25_000);
+        assert_eq!(&rt; bag.total(), 75_000);
+        assert_eq!(&rt; bag.count(&[4, 2, 24_999, 0]), 3);
+        assert_eq!(&rt; bag.count(&[4, 2, 24_999, 1]), 0);
+    }
+    Ok(())
+}
+
 #[test]
 fn rows_that_are_above_are_taken_in(rt: HostRuntime) -> Result<(), Fail> {
     let mut bag = bag_of(rt.alloc(), &[(&[1], 5), (&[2], -1)])?;
-    bag.take_in(bag_of(rt.alloc(), &[(&[3], 2), (&[4], -7)])?)?;
+    bag.absorb(bag_of(rt.alloc(), &[(&[3], 2), (&[4], -7)])?)?;
     assert_lists(&rt, &bag, &[(&[1], 5), (&[2], -1), (&[3], 2), (&[4], -7)]);
     assert_eq!(&rt; bag.total(), 15);
-    bag.take_in(bag_of(rt.alloc(), &[(&[0], 1), (&[4], 7)])?)?;
+    bag.absorb(bag_of(rt.alloc(), &[(&[0], 1), (&[4], 7)])?)?;
     assert_lists(&rt, &bag, &[(&[0], 1), (&[1], 5), (&[2], -1), (&[3], 2)]);
     Ok(())
 }
@@ -231,7 +261,7 @@ fn rows_are_cut_where_it_is_asked(rt: HostRuntime) -> Result<(), Fail> {
 }
 
 /// Asserts that just these rows, with these counts, start with the key.
-fn assert_finds(rt: &impl Abort, keyed: &Keyed, key: &[i64], wanted: &[(&[i64], i64)]) {
+fn assert_finds(rt: &impl Abort, keyed: &ColumnIndex, key: &[i64], wanted: &[(&[i64], i64)]) {
     let mut rows = keyed.rows_starting_with(key);
     for (row, count) in wanted {
         assert_eq!(rt; rows.next(), Some((*row, *count)));
@@ -245,7 +275,7 @@ fn kept_by_last_cells(alloc: Global) -> Result<Bag, Fail> {
     for k in 0..100_i64 {
         bag.add(&[k, k % 40], 1)?;
     }
-    bag.keep_keyed(alloc, vec![in alloc; 1]?)?;
+    bag.keep_index(alloc, vec![in alloc; 1]?)?;
     Ok(bag)
 }
 
@@ -268,7 +298,7 @@ fn rows_behind_their_keys_go_with_what_else_changes_a_bag(rt: HostRuntime) -> Re
     assert!(rt; bag.keyed_by(&[1]).is_some());
     bag.add(&[3, 3], 1)?;
     assert!(rt; bag.keyed_by(&[1]).is_none());
-    bag.keep_keyed(rt.alloc(), vec![in rt.alloc(); 1]?)?;
+    bag.keep_index(rt.alloc(), vec![in rt.alloc(); 1]?)?;
     assert!(rt; bag.keyed_by(&[1]).is_some());
     let as_many = bag.copy(rt.alloc())?;
     assert!(rt; as_many.keyed_by(&[1]).is_none());
@@ -280,7 +310,7 @@ fn rows_behind_their_keys_go_with_what_else_changes_a_bag(rt: HostRuntime) -> Re
 #[test]
 fn rows_are_laid_out_behind_their_keys(rt: HostRuntime) -> Result<(), Fail> {
     let bag = bag_of(rt.alloc(), &[(&[1, 7], 2), (&[2, 6], -3), (&[3, 7], 4)])?;
-    let keyed = Keyed::of(rt.alloc(), &bag, vec![in rt.alloc(); 1]?)?;
+    let keyed = ColumnIndex::of(rt.alloc(), &bag, vec![in rt.alloc(); 1]?)?;
     assert_finds(&rt, &keyed, &[6], &[(&[6, 2, 6], -3)]);
     assert_finds(&rt, &keyed, &[7], &[(&[7, 1, 7], 2), (&[7, 3, 7], 4)]);
     assert_finds(&rt, &keyed, &[8], &[]);

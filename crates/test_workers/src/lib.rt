@@ -7,3 +7,5 @@
 mod desks;
 #[cfg(test)]
 mod nights;
+#[cfg(test)]
+mod readers;

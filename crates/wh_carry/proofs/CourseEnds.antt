@@ -8,7 +8,7 @@ use Rattle.wh_carry.specs.declared.stages.Stage.{Stage}
 use Rattle.wh_carry.specs.Carry.{at_first, carried, tables_after}
 use Rattle.wh_carry.specs.Kept.{Kept}
 use Rattle.wh_carry.specs.Night.{Night, state_at}
-use Rattle.wh_carry.specs.Standing.{place_behind}
+use Rattle.wh_carry.specs.Stages.{place_behind}
 use Rattle.wh_carry.specs.Inner.Standing.{StandsAt}
 use Rattle.wh_carry.specs.Waves.{expressions_of, stages_of}
 use Rattle.wh_carry.proofs.CourseWaves.{take_all}

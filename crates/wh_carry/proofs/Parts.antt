@@ -47,7 +47,8 @@ use Rattle.wh_carry.specs.Night.{Night, ArePassedAt, IsFaultAt, IsFirstFaultOf, 
 use Rattle.wh_carry.specs.Legs.{Leg, Page, legs_after, legs_of}
 use Rattle.wh_carry.proofs.Places.{places_are}
 use Rattle.wh_carry.specs.Course.{AreParts, IsOutcome, IsStop, start_of}
-use Rattle.wh_carry.specs.Standing.{IsStageIn, place_behind}
+use Rattle.wh_carry.specs.Stages.{place_behind}
+use Rattle.wh_carry.specs.Standing.{IsStageIn}
 use Rattle.wh_carry.specs.Inner.Standing.{ArePages, GoesPast, IsWaveAt, PutsPages, StandsAt, legs_at}
 
 -- ---- places

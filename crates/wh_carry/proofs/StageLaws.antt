@@ -15,7 +15,7 @@ use Rattle.wh_carry.specs.declared.stages.Stage.{Stage}
 use Rattle.wh_carry.specs.declared.stages.Stage.TheVariants as stage
 use Rattle.wh_carry.specs.AnyOrder.{AreSideBySide, expressions_from}
 use Rattle.wh_carry.specs.Waves.{comp_of, expressions_of, is_target_among, stages_after, stages_of, wave_of}
-use Rattle.wh_carry.specs.Stages.{AreStages, ListsHaveOneStages, WavesAreSideBySide, place_after}
+use Rattle.wh_carry.specs.Stages.{AreStages, ListsHaveOneStages, WavesAreSideBySide, place_behind}
 
 -- ---- stage by stage
 
@@ -247,7 +247,7 @@ pub waves_are_side_by_side : WavesAreSideBySide
 waves_are_side_by_side = λ shape list ok before after jobs e. of_wave shape list ok before after jobs e
   where
     of_wave : (shape : List (List ℕ)) (list : List Expression) → IsCorrect shape list → (before after : List Stage) (jobs : List Job) → stages_of list ≡ before ++ stage.Wave jobs ∷ after
-        → (expressions_from list (place_after before) (length jobs) ≡ map comp_of jobs) × AreSideBySide list (place_after before) (length jobs)
+        → (expressions_from list (place_behind before) (length jobs) ≡ map comp_of jobs) × AreSideBySide list (place_behind before) (length jobs)
     of_wave shape list ok before after jobs e =
         let are = (lists_have_one_stages list).0 in
         let xs : List Expression = flat_map expressions_of before in

@@ -8,7 +8,7 @@ use Rattle.wh_maint.specs.declared.fault.MaintFault.{MaintFault}
 use Rattle.wh_carry.specs.Kept.{Kept, IsPendingIn}
 use Rattle.wh_carry.specs.Refused.{CanBeComputed, IsCompFaultIn}
 
--- of the Comp of a view from these sources
+-- the answer of the Comp of a view from these sources
 pub record IsComputeAnswer (catalog : CatalogOf) (k : Kept) (view : ℕ) (sources : List ℕ) (result : Result PendingOf MaintFault) : Type 0 where
   -- what it adds can be kept pending of the view
   pub pending : IfOk result (IsPendingIn catalog view)

@@ -20,7 +20,7 @@ pub record AreSideBySide (list : List Expression) (place n : ℕ) : Type 0 where
   pub comps : (j : ℕ) → j < n → (v : ℕ) × (ys : List ℕ) × At list (place + j) (Comp v ys)
   pub apart : (j k v w : ℕ) (ys zs : List ℕ) → j < n → k < n → At list (place + j) (Comp v ys) → At list (place + k) (Comp w zs) → has ys w ≡ false
 
--- the expressions from this place on, so many of them
+-- so many expressions of a list, from this place on
 abbrev pub expressions_from : List Expression → ℕ → ℕ → List Expression
 expressions_from list place n = take n (drop place list)
 
@@ -46,7 +46,7 @@ pub record IsFreeOfOrder (catalog : CatalogOf) (list : List Expression) (tables 
   pub amid : (done left : List Expression) (e : Expression) → IsPermutation (expressions_from list place n) (done ++ e ∷ left)
       → IsSameAt catalog changes (carried (graph_of catalog) changes done (before (graph_of catalog) changes list tables place)) (before (graph_of catalog) changes list tables place) e
 
--- so it is of Comps side by side in every correct list, from whatever tables
+-- Comps side by side in every correct list, from whatever tables, are free of order
 abbrev pub WavesHaveNoOrder : Type 0
 WavesHaveNoOrder =
     (catalog : CatalogOf) (list : List Expression) (tables changes : ℕ → Bag)

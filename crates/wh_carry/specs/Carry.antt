@@ -21,7 +21,7 @@ at_first tables = record { tables = tables; pending = λ v j. empty }
 abbrev pub change_in : ViewGraph → (ℕ → Bag) → State → ℕ → Bag
 change_in g changes s v = if_base (g.children v) (changes v) (change_of (g.views v).kind (s.tables v) (s.pending v))
 
--- one value for the view, for the others what they had
+-- one value for the view, and for each other view what it had
 abbrev pub with_at : {A : Type 0} → ℕ → A → (ℕ → A) → ℕ → A
 with_at v x f u = cond (v == u) x (f u)
 
@@ -36,7 +36,7 @@ step g changes (Inst v) s = record {
   pending = s.pending;
 }
 
--- the expressions of a list, one after another
+-- the state that the expressions of a list make, one after another
 unfoldable pub carried : ViewGraph → (ℕ → Bag) → List Expression → State → State
 carried g changes [] s = s
 carried g changes (e ∷ list) s = carried g changes list (step g changes e s)
@@ -45,6 +45,6 @@ carried g changes (e ∷ list) s = carried g changes list (step g changes e s)
 abbrev pub before : ViewGraph → (ℕ → Bag) → List Expression → (ℕ → Bag) → ℕ → State
 before g changes list tables place = carried g changes (take place list) (at_first tables)
 
--- the tables at its end
+-- the tables that a whole list makes of these
 abbrev pub tables_after : ViewGraph → (ℕ → Bag) → List Expression → (ℕ → Bag) → ℕ → Bag
 tables_after g changes list tables = (carried g changes list (at_first tables)).tables

@@ -27,7 +27,7 @@ abbrev pub IsOutcome : Night → ℕ → Option MaintFault → Type 0
 IsOutcome n place None = IsPassedAt n place
 IsOutcome n place (Some fault) = IsFaultAt n place fault
 
--- of a wave, what becomes of each job; of a page, the operation that puts it
+-- the part of a leg: of a wave what becomes of each job, of a page the operation that puts it
 abbrev pub IsPart : Night → Leg → Part → Type 0
 IsPart n (Wave place jobs) (part.Wave outcomes) =
     (length outcomes.items ≡ jobs) × ((j : ℕ) (outcome : Option MaintFault) → slice_get outcomes.items j ≡ Some outcome → IsOutcome n (place + j) outcome)
@@ -35,7 +35,7 @@ IsPart n (Page place view rows) (part.Page op) = operation op ≡ Writes view ro
 IsPart n (Wave place jobs) (part.Page op) = ⊥
 IsPart n (Page place view rows) (part.Wave outcomes) = ⊥
 
--- it can be gone through: no job is refused
+-- the part can be gone through: no job is refused
 abbrev pub is_passed : Part → Bool
 is_passed (part.Wave outcomes) = list_all is_none outcomes.items
 is_passed (part.Page op) = true

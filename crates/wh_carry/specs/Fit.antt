@@ -12,7 +12,7 @@ use Rattle.wh_maint.specs.Finishing.{kind_in}
 use Rattle.wh_carry.specs.Carry.{before}
 use Rattle.wh_carry.specs.Refused.{HaveValuesBelow}
 
--- each table is fit, those of base views too
+-- each table is fit, of base views too
 abbrev pub AreFit : ViewGraph → (ℕ → Bag) → Type 0
 AreFit g tables = (v : ℕ) → IsFitTable (g.views v).kind (tables v)
 

@@ -58,7 +58,7 @@ pub record HaveParts (catalog : CatalogOf) (s : KeptLists) : Type 0 where
 abbrev pub CanFinish : CatalogOf → Kept → Type 0
 CanFinish catalog k = (v : ℕ) → v < length catalog.views.children → k.known v ≡ false → IsFitTable (kind_in catalog v) (k.tables v)
 
--- the views of this test get their changes, those that have none yet
+-- the views of this test that have no changes yet get theirs
 abbrev pub finished : CatalogOf → (ℕ → Bool) → Kept → Kept
 finished catalog test k = record {
   tables = k.tables;
@@ -107,7 +107,7 @@ AreKnown k views = (u : ℕ) → has views u ≡ true → k.known u ≡ true
 abbrev pub with_added : Kept → PendingOf → PendingOf
 with_added k added = record { view = added.view; columns = merged (k.pending added.view) added.columns }
 
--- this is pending of its view
+-- what is kept, with this as what is pending of its view
 abbrev pub with_pending : PendingOf → Kept → Kept
 with_pending pending k = record {
   tables = k.tables;
@@ -116,7 +116,7 @@ with_pending pending k = record {
   known = k.known;
 }
 
--- this is the change of the view, and it is known
+-- what is kept, with this as the change of the view, which is known
 abbrev pub with_change : ℕ → Bag → Kept → Kept
 with_change v change k = record {
   tables = k.tables;
@@ -125,7 +125,7 @@ with_change v change k = record {
   known = with_at v true k.known;
 }
 
--- this is the table of the view
+-- what is kept, with this as the table of the view
 abbrev pub with_table : ℕ → Bag → Kept → Kept
 with_table v table k = record {
   tables = with_at v table k.tables;
@@ -134,7 +134,7 @@ with_table v table k = record {
   known = k.known;
 }
 
--- of these views some have got their changes, and nothing else is new
+-- some of these views have got their changes, and nothing else is new
 pub record AreSomeFinished (catalog : CatalogOf) (views : List ℕ) (old new : Kept) : Type 0 where
   pub test : ℕ → Bool
   pub among : (u : ℕ) → test u ≡ true → has views u ≡ true

@@ -19,8 +19,8 @@ use Rattle.wh_carry.specs.Steps.{rows_at}
 use Rattle.wh_carry.specs.declared.report.CarryFault.{CarryFault}
 use Rattle.wh_carry.specs.Refused.{AreAllowedBelow, ArePassedBelow, HasValueAt, HaveValuesBelow, IsNightFault, IsPassed}
 
--- every correct strategy, one-way or not, carried out from the contents of a base: where the changed base has tables and carrying out
--- has a value at each expression, the changed base has contents, and each view's table at the end is the one that it has there
+-- Every correct strategy, one-way or not, carried out from the contents of a base. Where the changed base has tables and each expression
+-- has a value, the changed base has contents. Each view's table at the end is the one that it has there
 abbrev pub StrategiesEndInContents : Type 0
 StrategiesEndInContents =
     (catalog : CatalogOf) (list : List Expression) (tables changes : ℕ → Bag)
@@ -30,7 +30,7 @@ StrategiesEndInContents =
     → HasContents (graph_of catalog) (changed tables changes)
     × ((v : ℕ) → v < length catalog.views.children → tables_after (graph_of catalog) changes list tables v ≡ contents (graph_of catalog) (changed tables changes) v)
 
--- a step of this: in the contents of the changed base each derived view has a value
+-- in the contents of the changed base each derived view has a value
 abbrev pub NewContentsHaveValues : Type 0
 NewContentsHaveValues =
     (catalog : CatalogOf) (list : List Expression) (tables changes : ℕ → Bag)
@@ -38,7 +38,8 @@ NewContentsHaveValues =
     → AreContents (graph_of catalog) tables → HaveValuesBelow catalog list tables changes (length list)
     → HaveValuesOver (graph_of catalog) (contents (graph_of catalog) (changed tables changes))
 
--- another, which asks for no values: from tables that the derived views make of their children's, the strategy ends in such tables over the changed base
+-- from tables that the derived views make of their children's, with or without values, the strategy ends in such tables over the changed
+-- base
 abbrev pub StrategiesEndInViews : Type 0
 StrategiesEndInViews =
     (catalog : CatalogOf) (list : List Expression) (tables changes : ℕ → Bag)
@@ -51,7 +52,7 @@ StrategiesEndInViews =
 abbrev pub PassedHaveValues : Type 0
 PassedHaveValues = (catalog : CatalogOf) (changes : ℕ → Bag) (s : State) (e : Expression) → IsPassed catalog changes s e → HasValueAt catalog changes s e
 
--- such tables are fit for every correct strategy and all changes, and so are the contents of a base
+-- tables that the derived views make of base tables are fit for every correct strategy and all changes, and so are the contents of a base
 abbrev pub ContentsAreFitForNights : Type 0
 ContentsAreFitForNights =
     (catalog : CatalogOf) (list : List Expression) (tables changes : ℕ → Bag)
@@ -69,7 +70,7 @@ pub record StepsAreWork (catalog : CatalogOf) (list : List Expression) (tables c
       → size (change_in (graph_of catalog) changes (before (graph_of catalog) changes list tables p) v)
       ≡ rows_at catalog.views.children list tables (tables_after (graph_of catalog) changes list tables) p
 
--- so it is of every correct strategy, from whatever tables
+-- in every correct strategy, from whatever tables, what each expression reads or writes is its part of the work
 abbrev pub StepsAreSummands : Type 0
 StepsAreSummands =
     (catalog : CatalogOf) (list : List Expression) (tables changes : ℕ → Bag)
@@ -81,7 +82,7 @@ pub record OneIsRefused (catalog : CatalogOf) (list : List Expression) (tables c
   pub none : AreAllowedBelow catalog tables changes (length catalog.views.children) → ArePassedBelow catalog list tables changes (length list)
       → (f : CarryFault) → IsNightFault catalog list tables changes f → f.fault ≡ Memory
 
--- so it is of every list and all tables
+-- for every list and all tables, a night is refused for one reason at most
 abbrev pub RefusalsAreOne : Type 0
 RefusalsAreOne = (catalog : CatalogOf) (list : List Expression) (tables changes : ℕ → Bag) → OneIsRefused catalog list tables changes
 
@@ -89,7 +90,7 @@ RefusalsAreOne = (catalog : CatalogOf) (list : List Expression) (tables changes 
 abbrev pub AreFew : ViewGraph → (ℕ → Bag) → Type 0
 AreFew g tables = (v : ℕ) → ¬ (g.children v ≡ []) → ¬ (HaveTooMany (g.children v) tables)
 
--- from tables whose combined rows are so few, a night in which each expression is passed ends in such tables
+-- from tables whose views have at most so many combined rows, a night in which each expression is passed ends in such tables
 abbrev pub NewRowsAreFew : Type 0
 NewRowsAreFew =
     (catalog : CatalogOf) (list : List Expression) (tables changes : ℕ → Bag)

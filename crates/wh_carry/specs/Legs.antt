@@ -12,8 +12,8 @@ use Rattle.wh_carry.specs.Waves.{expressions_of, stages_of}
 use Rattle.wh_carry.specs.NightList.{inst_pages}
 use Rattle.wh_carry.specs.Night.{Night}
 
--- A wave of so many jobs, of which job n is the Comp at the place with n added; or a page of new counts of the view that the Inst at
--- the place installs
+-- A wave of so many jobs, of which job n is the Comp at the place with n added. Or a page of new counts of the view that the Inst at the
+-- place installs
 pub data Leg : Type 0 where
   Wave : (place jobs : ℕ) → Leg
   Page : (place view : ℕ) → (rows : Counted) → Leg
@@ -42,15 +42,15 @@ pub record Remaining : Type 0 where
   pub drawn : ℕ
   pub done : ℕ
 
--- these legs, of which nothing is drawn
+-- these legs, with nothing drawn of the first
 abbrev pub untouched : List Leg → Remaining
 untouched legs = record { legs = legs; drawn = 0; done = 0 }
 
--- a draw takes the next job of the wave
+-- what is left after a draw, which takes the next job of the wave
 abbrev pub after_draw : Remaining → Remaining
 after_draw r = record { legs = r.legs; drawn = r.drawn + 1; done = r.done }
 
--- of the wave that comes first, so many of whose jobs are done, one job alone is left to do
+-- the first leg is a wave, so many of whose jobs are done, and one job alone is left to do
 abbrev pub is_one_left : List Leg → ℕ → Bool
 is_one_left (Wave place jobs ∷ legs) done = done + 1 == jobs
 is_one_left (Page place view rows ∷ legs) done = false
@@ -60,11 +60,11 @@ is_one_left [] done = false
 abbrev pub is_last : Remaining → Bool
 is_last r = is_one_left r.legs r.done
 
--- the last Done of a wave takes the wave off the list
+-- what is left after a Done, of which the last takes the wave off the list
 abbrev pub after_done : Remaining → Remaining
 after_done r = if is_last r then untouched (drop 1 r.legs) else record { legs = r.legs; drawn = r.drawn; done = r.done + 1 }
 
--- a page takes itself off the list
+-- what is left after a page, which takes itself off the list
 abbrev pub after_page : Remaining → Remaining
 after_page r = untouched (drop 1 r.legs)
 

@@ -30,7 +30,7 @@ AreAllowed night = AreAllowedBelow night.catalog night.tables night.changes (len
 abbrev pub IsPassedAt : Night → ℕ → Type 0
 IsPassedAt night place = (e : Expression) → At night.list place e → IsPassed night.catalog night.changes (state_at night place) e
 
--- so it is at each of these places
+-- at each of these places nothing but memory can be refused
 abbrev pub ArePassedAt : Night → List ℕ → Type 0
 ArePassedAt night places = All (IsPassedAt night) places
 

@@ -16,7 +16,7 @@ use Rattle.wh_carry.specs.Carry.{before}
 use Rattle.wh_carry.specs.Refused.{HaveValuesBelow}
 use Rattle.wh_carry.specs.NightList.{new_counts, night_below, pages_of}
 
--- the table after one page and the next, to the last
+-- the table with the counts of some pages, one after another
 abbrev pub with_pages : Bag → List Counted → Bag
 with_pages table [] = table
 with_pages table (page ∷ pages) = with_pages (with_counts table page) pages
@@ -28,7 +28,7 @@ pub record ArePagesOf (keys : ℕ) (table change : Bag) : Type 0 where
   pub made : with_pages table (pages_of keys (new_counts table change)) ≡ sum_of table change
   pub good : keys ≤ 256 → IsTable (sum_of table change) → All (λ page. is_page page ≡ true) (pages_of keys (new_counts table change))
 
--- so it is of every table and change, by pages of 1 row or more
+-- for every table and change, the pages of 1 row or more of the new counts make the table with the change
 abbrev pub NewCountsMakeTables : Type 0
 NewCountsMakeTables = (keys : ℕ) (table change : Bag) → 1 ≤ keys → ArePagesOf keys table change
 

@@ -16,7 +16,7 @@ use Rattle.wh_carry.specs.Refused.{HasValueAt, HaveValuesBelow}
 abbrev pub counts_in : Bag → Bag → Counted
 counts_in table change = map (λ e. (e.0, count table e.0)) (written change)
 
--- the same in the table that has the change: 0 for a row that leaves
+-- the rows of a change in rising order, each with its count in the table that has the change: 0 for a row that leaves
 abbrev pub new_counts : Bag → Bag → Counted
 new_counts table change = counts_in (sum_of table change) change
 
@@ -26,7 +26,7 @@ pages_within zero keys rows = []
 pages_within (suc n) keys [] = []
 pages_within (suc n) keys (e ∷ es) = take keys (e ∷ es) ∷ pages_within n keys (drop keys (e ∷ es))
 
--- rows cut into pages
+-- all rows, cut into pages of this many
 abbrev pub pages_of : ℕ → Counted → List Counted
 pages_of keys rows = pages_within (length rows) keys rows
 

@@ -27,10 +27,11 @@ pub record AddedFit (pending added : ℕ → Bag) : Type 0 where
 
 -- ---- reasons
 
--- Why a part of a night cannot be done, memory aside: of a base view's change, that it takes more of some row than there is, or that a
--- count with it leaves i64; of a derived view's change, that a touched group's new count leaves i64, or that a new sum of one does; of
--- the Comp of a view from some sources, that there are too many combined rows, that one which it meets has an expression without a
--- value, or that what is pending leaves its range with what the Comp adds; of a view's table, that a count with the change leaves i64
+-- Why a part of a night cannot be done, memory aside. Of a base view's change it is that it takes more of some row than there is, or that a
+-- count with it leaves i64. Of a derived view's change it is that a touched group's new count leaves i64, or that a new sum of one does. Of
+-- the Comp of a view from some sources it is that there are too many combined rows, or that one which it meets has an expression without a
+-- value. It is also that what is pending leaves its range with what the Comp adds. Of a view's table it is that a count with the change
+-- leaves i64
 pub data Reason : Type 0 where
   RowIsLacking : ℕ → Reason
   BaseIsLarge : ℕ → Reason
@@ -65,7 +66,7 @@ IsAnswer tables changes (CompMeetsNoValue v ys) fault = fault ≡ Range v
 IsAnswer tables changes (PendingIsLarge v ys) fault = fault ≡ Large v
 IsAnswer tables changes (TableIsLarge v) fault = fault ≡ Large v
 
--- of these reasons, the first in this order that is not ruled out at the state
+-- the first of some reasons, in the order of reasons, that is not ruled out at the state
 pub record IsFirstReason (catalog : CatalogOf) (changes : ℕ → Bag) (s : State) (Asked : Reason → Type 0) (Before : Reason → Reason → Type 0) (reason : Reason) : Type 0 where
   pub asked : Asked reason
   pub stands : ¬ (IsRuledOut catalog changes s reason)
@@ -81,7 +82,7 @@ HasValueAt catalog changes s (Comp v ys) =
     × HaveValues (view_of (definition_of catalog v)) (changed_rows (view_of (definition_of catalog v)).passes (children_of catalog.views.children v) ys s.tables (change_in (graph_of catalog) changes s))
 HasValueAt catalog changes s (Inst v) = IsRuledOut catalog changes s (ChangeHasNoValue v)
 
--- so it has at each place of the list below this one
+-- carrying out has a value at each place of the list below this one
 abbrev pub HaveValuesBelow : CatalogOf → List Expression → (ℕ → Bag) → (ℕ → Bag) → ℕ → Type 0
 HaveValuesBelow catalog list tables changes n = (place : ℕ) (e : Expression) → place < n → At list place e → HasValueAt catalog changes (before (graph_of catalog) changes list tables place) e
 
@@ -93,7 +94,7 @@ IsOfBaseBelow catalog n (RowIsLacking b) = (b < n) × (is_base catalog b ≡ tru
 IsOfBaseBelow catalog n (BaseIsLarge b) = (b < n) × (is_base catalog b ≡ true)
 IsOfBaseBelow catalog n reason = ⊥
 
--- for which reasons an expression can be: those of the changes that it needs, and its own
+-- for which reasons an expression can be refused: those of the changes that it needs, and its own
 abbrev pub IsOf : Expression → Reason → Type 0
 IsOf (Comp v ys) (ChangeIsLarge u) = has ys u ≡ true
 IsOf (Comp v ys) (ChangeHasNoValue u) = has ys u ≡ true
@@ -106,9 +107,9 @@ IsOf (Inst v) (ChangeHasNoValue u) = u ≡ v
 IsOf (Inst v) (TableIsLarge u) = u ≡ v
 IsOf (Inst v) reason = ⊥
 
--- The turn of a reason, as three numbers: what it is of, base changes first, then the changes of derived views, then Comps, then tables;
--- the view, the lower number first; and which of the view's own it is, a lacking row before a large change, counts before sums, and of a
--- Comp too many rows before a missing value, that before what is pending
+-- The turn of a reason, as three numbers. The first is what it is of: base changes first, then the changes of derived views, then Comps,
+-- then tables. The second is the view, the lower number first. The third is which of the view's own it is: a lacking row before a large
+-- change, and counts before sums. Of a Comp it is too many rows before a missing value, and that before what is pending
 abbrev pub rank : Reason → ℕ × ℕ × ℕ
 rank (RowIsLacking b) = (0, b, 0)
 rank (BaseIsLarge b) = (0, b, 1)
@@ -119,7 +120,7 @@ rank (CompMeetsNoValue v ys) = (2, v, 1)
 rank (PendingIsLarge v ys) = (2, v, 2)
 rank (TableIsLarge v) = (3, v, 0)
 
--- the first numbers that differ decide
+-- one triple of numbers is below another: the first numbers that differ decide
 abbrev pub IsEarlier : ℕ × ℕ × ℕ → ℕ × ℕ × ℕ → Type 0
 IsEarlier a b = (a.0 < b.0) ⊎ ((a.0 ≡ b.0) × ((a.1 < b.1) ⊎ ((a.1 ≡ b.1) × (a.2 < b.2))))
 
@@ -135,7 +136,7 @@ AreAllowedBelow catalog tables changes n = (reason : Reason) → IsOfBaseBelow c
 abbrev pub IsPassed : CatalogOf → (ℕ → Bag) → State → Expression → Type 0
 IsPassed catalog changes s e = (reason : Reason) → IsOf e reason → IsRuledOut catalog changes s reason
 
--- so it is at each place of the list below this one
+-- at each place of the list below this one nothing but memory can be refused
 abbrev pub ArePassedBelow : CatalogOf → List Expression → (ℕ → Bag) → (ℕ → Bag) → ℕ → Type 0
 ArePassedBelow catalog list tables changes n = (place : ℕ) (e : Expression) → place < n → At list place e → IsPassed catalog changes (before (graph_of catalog) changes list tables place) e
 
@@ -159,7 +160,8 @@ pub record IsListFault (catalog : CatalogOf) (list : List Expression) (tables ch
   pub earlier : ArePassedBelow catalog list tables changes place
   pub refused : IsStepFault catalog changes (before (graph_of catalog) changes list tables place) expression fault
 
--- why a night is refused, before it has started or in it: base changes come before the list, and the list goes place by place; Memory may be answered for the row that a base change lacks, and at any time once all base changes are allowed
+-- Why a night is refused, before it has started or in it. Base changes come before the list, and the list goes place by place. Memory may
+-- be answered for the row that a base change lacks, and at any time once all base changes are allowed
 abbrev pub IsNightFault : CatalogOf → List Expression → (ℕ → Bag) → (ℕ → Bag) → CarryFault → Type 0
 IsNightFault catalog list tables changes refused =
     cond refused.started
@@ -193,7 +195,8 @@ pub record IsFirstUnfinishedIn (catalog : CatalogOf) (k : Kept) (ys : List ℕ) 
   pub lower : (u : ℕ) → u < view → has ys u ≡ true → CanBeFinishedIn catalog k u
   pub refused : IsUnfinishedIn catalog k view fault
 
--- a Comp is not computed: there are too many combined rows, or one that it meets has an expression without a value; memory is wanted where some source has a change, or the view has sums
+-- A Comp is not computed: there are too many combined rows, or one that it meets has an expression without a value. Memory is wanted where
+-- some source has a change, or the view has sums
 abbrev pub IsCompFaultIn : CatalogOf → Kept → ℕ → List ℕ → MaintFault → Type 0
 IsCompFaultIn catalog k v ys (Large w) = (w ≡ v) × IsTooLarge (children_of catalog.views.children v) ys k.tables k.changes
 IsCompFaultIn catalog k v ys (Range w) = (w ≡ v) × (¬ (IsTooLarge (children_of catalog.views.children v) ys k.tables k.changes))

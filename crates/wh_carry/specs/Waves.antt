@@ -26,8 +26,8 @@ abbrev pub wave_of : List Job → List Stage
 wave_of [] = []
 wave_of (job ∷ jobs) = stage.Wave (job ∷ jobs) ∷ []
 
--- the stages of a list, where a wave of these jobs is open: an Inst ends it and is a stage of its own, and a Comp joins it, unless it
--- is from a view that a job of it computes; then it opens the next wave
+-- The stages of a list, where a wave of these jobs is open. An Inst ends it and is a stage of its own. A Comp joins it, unless it is from a
+-- view that a job of it computes; then it opens the next wave
 unfoldable pub stages_after : List Job → List Expression → List Stage
 stages_after jobs [] = wave_of jobs
 stages_after jobs (Inst v ∷ list) = wave_of jobs ++ stage.Inst v ∷ stages_after [] list

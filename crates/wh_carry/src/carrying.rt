@@ -1,4 +1,4 @@
-//! A whole night on one thread.
+//! Carries a whole night out on one thread.
 
 ghost use Rattle.std.specs.Prelude.{◌≡◌, ◌⊎◌, ◌<◌, ℕ, length, OnOk, IfOk, IfErr};
 ghost use Rattle.wh_row.specs.Bag.{Bag as SignedBag};
@@ -25,15 +25,15 @@ use wh_maint::{MaintFault, changed};
 use wh_row::Bag;
 use wh_strategy::{Correct, Expression};
 
-/// Carries a night out, on copies of the tables: what any correct strategy, one-way or not, makes of them with these
-/// changes of the base views. There is a table and a change for each view; the changes of derived views are not read.
-/// The strategy was judged over this catalogue's shape (`is_of` tests it), and each table is fit, as the contents of a
-/// base are. The report has version 1.
+/// Carries a night out, on copies of the tables: what any correct strategy, one-way or not, makes of them with these changes of the base
+/// views. There is a table and a change for each view; the changes of derived views are not read. The strategy was judged over this
+/// catalogue's shape (`is_of` tests it), and each table is fit, as the contents of a base are. The report has version 1.
 ///
-/// First the base changes are tested, view by view: Absent, then Large. Then the expressions are carried out in their
-/// order; a derived view is finished where its change is first needed, at a Comp that is from it (several by rising
-/// number) or at its Inst. Then a Comp may be Large, then Range, and then Large where it is added to what is pending;
-/// an Inst may be Large. The first refusal ends the night; where there is none but memory, the night is carried out.
+/// First the base changes are tested, view by view: Absent, then Large. Then the expressions are carried out in their order. A derived view
+/// is finished where its change is first needed, at a Comp that is from it (several by rising number) or at its Inst.
+///
+/// Fails with the first refusal. A Comp may be Large, then Range, and then Large where it is added to what is pending; an Inst may be
+/// Large. Memory may come for the row that a base change lacks, and at any time once all base changes are allowed.
 pub fn carry<F: RowTest, G: RowValue>(
     alloc: Global,
     catalog: &Catalog<F, G>,
@@ -74,8 +74,9 @@ pub fn carry<F: RowTest, G: RowValue>(
     }
 }
 
-/// Tests the change of each base view, by rising number: Absent with the first row that it takes below zero, then Large
-/// where a count leaves i64. Memory only for the row that a change lacks. There is a table and a change for each view.
+/// Tests the change of each base view, by rising number. There is a table and a change for each view.
+/// Fails with Absent, which names the first row that a change takes below zero, then with Large where a count leaves i64. Memory is wanted
+/// for the named row alone.
 /// Takes O(m w log n) time for m changed rows in all, of w cells, and tables of at most n rows, beside a look at each view.
 pub fn base_changes<F: RowTest, G: RowValue>(
     alloc: Global,

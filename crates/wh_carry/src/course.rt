@@ -1,4 +1,4 @@
-//! What becomes of a night.
+//! Computes what becomes of a night, part by part, before any of it is shown.
 
 ghost use Rattle.std.specs.Prelude.{◌≡◌, ◌≤◌, ◌++◌, ◌∷◌, ◌<◌, ℕ, List, Some, true, false, cond, is_none, length, slice_get, OnOk, IfOk};
 ghost use Rattle.std.specs.List.{list_all};
@@ -12,7 +12,8 @@ ghost use Rattle.wh_carry.specs.declared.stages.Stage.TheVariants as stage;
 ghost use Rattle.wh_carry.specs.Night.{Night};
 ghost use Rattle.wh_carry.specs.Legs.{legs_of};
 ghost use Rattle.wh_carry.specs.Course.{AreParts, IsEnd, HasRefusal};
-ghost use Rattle.wh_carry.specs.Standing.{IsStageIn, place_behind};
+ghost use Rattle.wh_carry.specs.Stages.{place_behind};
+ghost use Rattle.wh_carry.specs.Standing.{IsStageIn};
 ghost use Rattle.wh_carry.specs.Inner.Standing.{GoesPast, StandsAt};
 
 use crate::inst::inst_of;
@@ -30,26 +31,29 @@ use wh_strategy::Correct;
 /// A part of a night that is over before the next one begins.
 #[derive(Drop)]
 pub enum Part {
-    /// A wave: for each of its jobs why it is refused, if it is.
+    /// A wave, with the reason why each of its jobs is refused, if it is.
     Wave(Vec<Option<MaintFault>>),
     /// The operation that puts a page of new counts.
     Page(Op),
 }
 
-/// What becomes of a night, as far as one can come in it.
+/// The course of a night, as far as one can come in it.
 #[derive(Drop)]
 pub struct Course {
     /// The parts, up to the first wave with a refused job.
     pub parts: Vec<Part>,
-    /// Why the night cannot go on after the last part, if it cannot.
+    /// The reason why the night cannot go on after the last part, if it cannot.
     pub stop: Option<MaintFault>,
 }
 
-/// What becomes of a night from its first expression on, and the tables that the whole night ends with: none where some expression of it
-/// is refused. Base changes are taken as they are: whether they are allowed, [`base_changes`](crate::base_changes) tells before. The
-/// tables are changed in place, and none is copied. There is a table and a change for each view; the changes of derived views are not
-/// read. The strategy was judged over this catalogue's shape (`is_of` tests it), each table is fit, as the contents of a base are, and a
-/// page has 1 to 256 rows.
+/// Computes what becomes of a night from its first expression on, and the tables that the whole night ends with. There are no tables where
+/// some expression is refused. The tables given are changed in place, and none is copied.
+///
+/// Base changes are taken as they are: [`base_changes`](crate::base_changes) tells before whether they are allowed. There is a table and a
+/// change for each view; the changes of derived views are not read. The strategy was judged over this catalogue's shape (`is_of` tests it),
+/// each table is fit, as the contents of a base are, and a page has 1 to 256 rows.
+///
+/// Fails for want of memory alone.
 pub fn course_of<F: RowTest, G: RowValue>(
     alloc: Global,
     catalog: &Catalog<F, G>,

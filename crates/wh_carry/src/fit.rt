@@ -1,4 +1,4 @@
-//! Whether tables are fit for a night.
+//! Tests whether tables are fit for a night.
 
 ghost use Rattle.std.specs.Prelude.{◌↔◌, ◌<◌, length, IsTrue, IfOk, OnErr};
 ghost use Rattle.wh_maint.specs.Asked.{AreBags};
@@ -12,7 +12,8 @@ use wh_formula::{RowTest, RowValue};
 use wh_maint::is_fit;
 use wh_row::Bag;
 
-/// Whether each view's table is fit, as a night asks for. Memory is wanted for the groups of summaries alone.
+/// Tells whether each view's table is fit, as a night asks for.
+/// Fails for want of memory, and only for the groups of summaries.
 /// Takes O(n w log n) time for n rows of summaries, of w cells, beside a look at each other view.
 pub fn are_fit<F: RowTest, G: RowValue>(
     alloc: Global,

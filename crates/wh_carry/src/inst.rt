@@ -1,4 +1,4 @@
-//! Insts, by pages.
+//! Makes the pages of an Inst's new counts.
 
 ghost use Rattle.std.specs.Prelude.{◌≡◌, ◌≢◌, ◌≤◌, ◌<◌, ◌==◌, ℕ, [], ◌∷◌, ◌++◌, Some, None, length, map, OnOk, IfOk};
 ghost use Rattle.wh_row.specs.Bag.{count, written};

@@ -1,12 +1,12 @@
-//! Nights: a strategy that is carried out on tables.
+//! Carries out nights: strategies on tables.
 //!
-//! [`carry`] carries out any correct strategy on one thread. From the contents of a base it ends in the contents of the
-//! new base, in which each view has a value; this is a law of all correct strategies. A caller with an order of its own
-//! goes by [`waves`], the stages of a strategy, and keeps what is done in a [`NightState`].
+//! [`carry`] carries out any correct strategy on one thread. From the contents of a base it ends in the contents of the new base, in which
+//! each view has a value; this is a law of all correct strategies. A caller with an order of its own goes by [`waves`], the stages of a
+//! strategy, and keeps what is done in a [`NightState`].
 //!
-//! [`course_of`] carries the night out, expression by expression, as a machine over events goes through it, and says of each part
-//! what becomes of it: of each job of a wave why it is refused, if it is, and of an Inst the pages of new counts that it puts. It takes
-//! the tables, and gives back those that the night ends with.
+//! [`course_of`] carries the night out, expression by expression, as a machine over events goes through it, and says of each part what
+//! becomes of it. Of each job of a wave it says why the job is refused, if it is, and of an Inst the pages of new counts that it puts. It
+//! takes the tables, and gives back those that the night ends with.
 #![tactic(auto)]
 
 mod carrying;

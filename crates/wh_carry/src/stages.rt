@@ -1,4 +1,4 @@
-//! The stages of a strategy.
+//! Cuts a strategy into stages: waves of Comps, and Insts.
 
 ghost use Rattle.std.specs.Prelude.{◌≡◌, ◌≢◌, [], ◌∷◌, ◌++◌, length, IfOk, OnOk, OnErr, List};
 ghost use Rattle.wh_strategy.specs.declared.expression.Expression.{Expression};
@@ -43,14 +43,14 @@ impl Model for Jobs {
 }
 
 impl Jobs {
-    /// How many jobs there are.
+    /// Returns how many jobs there are.
     pub fn len(&self) -> usize
         ensures { result ≡ length self.now }
     {
         self.jobs.len()
     }
 
-    /// The jobs in their order.
+    /// Lends the jobs in their order.
     pub fn as_slice(&self) -> &[Job]
         ensures { result.now ≡ self.now }
     {
@@ -58,9 +58,10 @@ impl Jobs {
     }
 }
 
-/// The stages of a correct list in its order: an Inst is a stage of its own and ends the open wave; a Comp joins the open
-/// wave, unless it is from a view that a Comp of that wave computes, when it opens the next one. Memory only where the
-/// list is not empty. Takes O(E² C) time for E expressions, each from at most C views.
+/// Returns the stages of a correct list in its order. An Inst is a stage of its own and ends the open wave. A Comp joins the open wave,
+/// unless it is from a view that a Comp of that wave computes; then it opens the next one.
+/// Fails for want of memory, and only where the list is not empty.
+/// Takes O(E² C) time for E expressions, each from at most C views.
 pub fn waves(alloc: Global, correct: &Correct) -> Result<Vec<Stage>, AllocError>
     ensures stages { IfOk result (λ stages. stages.items ≡ stages_of correct.now.list) }
     ensures memory { OnErr result (correct.now.list ≢ []) }
@@ -69,14 +70,14 @@ pub fn waves(alloc: Global, correct: &Correct) -> Result<Vec<Stage>, AllocError>
     let mut stages = Vec::new(alloc);
     let mut jobs = Vec::new(alloc);
     for expression in list {
-        take_in(alloc, expression, &mut jobs, &mut stages)?;
+        add_expression(alloc, expression, &mut jobs, &mut stages)?;
     }
     end_wave(alloc, &mut jobs, &mut stages)?;
     Ok(stages)
 }
 
 /// Takes the next expression in, behind the stages that are over and the jobs of the open wave.
-fn take_in(
+fn add_expression(
     alloc: Global,
     expression: &Expression,
     jobs: &mut Vec<Job>,

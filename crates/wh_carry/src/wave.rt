@@ -1,4 +1,4 @@
-//! Waves.
+//! Computes the jobs of a wave, and keeps what they add.
 
 ghost use Rattle.std.specs.Prelude.{◌≡◌, ◌≢◌, ◌+◌, ◌<◌, ◌==◌, ◌&&◌, ℕ, List, cond, true, length, map, is_none, slice_get, option_map, Option, Some, None, OnOk, IfOk, MatchOption};
 ghost use Rattle.std.specs.List.{list_all, list_any};

@@ -39,6 +39,6 @@ decided_value sizes decided u w =
     if decides decided u w then in_order sizes u w
     else (if decides decided w u then in_order sizes w u else pair_min sizes u w)
 
--- the decided bound: the same with each decided couple at its decision's value, under every common parent
+-- the decided bound: the pair bound with each decided couple at its decision's value, under every common parent
 abbrev pub decided_bound_of : List (List ℕ) → (ℕ → Size) → Prices → List (ℕ × ℕ) → ℕ
 decided_bound_of shape sizes prices decided = cost_by (decided_value sizes decided) shape sizes prices

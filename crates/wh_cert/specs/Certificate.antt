@@ -40,7 +40,8 @@ pub record IsAccepted (shape : List (List ℕ)) (sizes : ℕ → Size) (work bou
   pub right : lines ≡ lines_of shape sizes
   pub reached : work ≡ bound
 
--- where one by pairs is rejected: at the first line that differs, and at 0 where the lines are right and the work is not the bound
+-- where a certificate by pairs is rejected: at the first line that differs, and at 0 where the lines are right and the work is not the
+-- bound
 pub data IsRejected (shape : List (List ℕ)) (sizes : ℕ → Size) (work bound : ℕ) (lines : List PairMin) (line : ℕ) : Type 0 where
   wrong_line : DifferFirst lines (lines_of shape sizes) line → IsRejected shape sizes work bound lines line
   other_work : line ≡ 0 → lines ≡ lines_of shape sizes → work ≢ bound → IsRejected shape sizes work bound lines line

@@ -38,8 +38,8 @@ pub plan_all_lines : lines_of v_over_a_b (sizes_of three_sizes) ≡ line 2 1 0 8
 unfolding has children_of sizes_of each_below sibling_pairs_of comes_first
 plan_all_lines = refl
 
--- the same where each row of A weighs 10, so that A counts as 100 rows, then 120: min(100 + 70, 100 + 120) and changes of 40 and
--- 30, and Insts of 40, 30 and 6
+-- where each row of A weighs 10, A counts as 100 rows, then 120: min(100 + 70, 100 + 120) and changes of 40 and 30, and Insts of 40, 30 and
+-- 6
 pub weighted_bound : pair_bound_of v_over_a_b (sizes_of (weighing 10 10 12 4 ∷ row 100 70 30 ∷ row 50 44 6 ∷ [])) ones ≡ 316
 unfolding sum_below sum_pairs has children_of sizes_of
 weighted_bound = refl

@@ -7,7 +7,7 @@ use Rattle.wh_strategy.specs.declared.sizes.Size.{Size}
 abbrev pub grows_less : (ℕ → Size) → ℕ → ℕ → Bool
 grows_less sizes u w = nat_lt ((sizes u).post + (sizes w).pre) ((sizes w).post + (sizes u).pre)
 
--- their net growth is the same
+-- the net growth of both is the same
 abbrev pub grows_the_same : (ℕ → Size) → ℕ → ℕ → Bool
 grows_the_same sizes u w = (sizes u).post + (sizes w).pre == (sizes w).post + (sizes u).pre
 
@@ -15,6 +15,6 @@ grows_the_same sizes u w = (sizes u).post + (sizes w).pre == (sizes w).post + (s
 unfoldable pub comes_first : (ℕ → Size) → ℕ → ℕ → Bool
 comes_first sizes u w = grows_less sizes u w || (grows_the_same sizes u w && nat_lt u w)
 
--- the same as a fact
+-- u comes before w in the desired order, as a fact
 abbrev pub ComesFirst : (ℕ → Size) → ℕ → ℕ → Type 0
 ComesFirst sizes u w = comes_first sizes u w ≡ true

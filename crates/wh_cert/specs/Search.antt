@@ -30,7 +30,7 @@ nodes_below above (Cycle list) = record { above = above; node = node.Cycle list 
 nodes_below above (Branch couple left right) =
     record { above = above; node = node.Branch couple } ∷ (nodes_below (lower_first couple ∷ above) left ++ nodes_below (higher_first couple ∷ above) right)
 
--- the same for a whole tree
+-- the nodes of a whole tree in preorder, each where it stands
 abbrev pub nodes_of : CaseTree → List Placed
 nodes_of tree = nodes_below [] tree
 
@@ -40,14 +40,14 @@ pub record IsOpen (shape : List (List ℕ)) (above : List (ℕ × ℕ)) (pair : 
   pub not_lower_first : decides above pair.lower pair.higher ≡ false
   pub not_higher_first : decides above pair.higher pair.lower ≡ false
 
--- A node is good below these decisions, for a strategy of this work: under them the bound is at least the work, the list is a
--- cycle of their graph, the pair is a couple that they leave open.
+-- A node is good below these decisions, for a strategy of this work. Under them the bound is at least the work, the list is a cycle of
+-- their graph, or the pair is a couple that they leave open.
 abbrev pub IsGood : List (List ℕ) → (ℕ → Size) → Prices → ℕ → List (ℕ × ℕ) → TreeNode → Type 0
 IsGood shape sizes prices work above node.Bound = work ≤ decided_bound_of shape sizes prices above
 IsGood shape sizes prices work above (node.Cycle list) = IsCycle shape above list
 IsGood shape sizes prices work above (node.Branch pair) = IsOpen shape above pair
 
--- the same of a node where it stands
+-- a node is good where it stands in a tree, for a strategy of this work
 abbrev pub IsGoodNode : List (List ℕ) → (ℕ → Size) → Prices → ℕ → Placed → Type 0
 IsGoodNode shape sizes prices work placed = IsGood shape sizes prices work placed.above placed.node
 
@@ -55,7 +55,7 @@ IsGoodNode shape sizes prices work placed = IsGood shape sizes prices work place
 abbrev pub IsAcceptedTree : List (List ℕ) → (ℕ → Size) → Prices → ℕ → CaseTree → Type 0
 IsAcceptedTree shape sizes prices work tree = All (IsGoodNode shape sizes prices work) (nodes_of tree)
 
--- this is its first bad node in preorder, counted from 1
+-- this is the first bad node of a tree in preorder, counted from 1
 pub record IsFirstBad (shape : List (List ℕ)) (sizes : ℕ → Size) (prices : Prices) (work : ℕ) (tree : CaseTree) (place : ℕ) : Type 0 where
   pub index : ℕ
   pub counted : place ≡ index + 1

@@ -5,7 +5,8 @@ use Rattle.wh_strategy.specs.declared.expression.Expression.{Expression}
 use Rattle.wh_cert.specs.declared.tree.TreeNode.{TreeNode}
 use Rattle.wh_cert.specs.declared.tree.TreeNode.TheVariants as node
 
--- a tree: the bound, or a cycle, or a couple with the tree where its lower view is installed first and the one where its higher view is
+-- a tree: the bound, or a cycle, or a couple with two trees, the one where its lower view is installed first and the one where its higher
+-- view is
 pub data CaseTree : Type 0 where
   Bound : CaseTree
   Cycle : List Expression → CaseTree

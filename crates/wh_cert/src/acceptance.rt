@@ -1,4 +1,4 @@
-//! The verdict on a certificate.
+//! Judges certificates, without a search and without trust in whoever wrote one.
 
 ghost use Rattle.std.specs.Prelude.{◌≡◌, ◌≤◌, ℕ, List, length};
 ghost use Rattle.wh_strategy.specs.declared.expression.Expression.{Expression};
@@ -59,9 +59,8 @@ fn judge_tree(shape: &Shape, sizes: &Sizes, costs: Costs, correct: &Correct, tre
     }
 }
 
-/// Judges the certificate of a strategy at these sizes and costs. Takes no memory. Takes O(V² C²)
-/// for lines by pairs, and O(N (V C² + D) + K (C + D)) for a tree, with V views of at most C
-/// children each, N nodes at most D deep, and K expressions in their cycles.
+/// Judges the certificate of a strategy at these sizes and costs. Takes no memory. Takes O(V² C²) for lines by pairs, with V views of at
+/// most C children each. For a tree it takes O(N (V C² + D) + K (C + D)), with N nodes at most D deep, and K expressions in their cycles.
 pub fn certify(
     shape: &Shape,
     sizes: &Sizes,
@@ -81,12 +80,12 @@ pub fn certify(
     }
 }
 
-/// A law: where a tree is accepted for a work, no correct one-way strategy costs less.
+/// A law of the definitions: where a tree is accepted for a work, no correct one-way strategy costs less.
 pub fn no_one_way_strategy_is_below_a_tree()
     ensures { (shape : List (List ℕ)) (sizes : ℕ → Size) (prices : Prices) (work : ℕ) (tree : CaseTree) (list : List Expression) → IsShape shape → IsAcceptedTree shape sizes prices work tree → IsCorrect shape list → IsOneWay list → work ≤ work_of shape sizes prices list }
 {}
 
-/// A law: at these costs and a work, a certificate has one verdict only.
+/// A law of the definitions: at these costs and a work, a certificate has one verdict only.
 pub fn one_verdict()
     ensures { (shape : List (List ℕ)) (sizes : ℕ → Size) (prices : Prices) (work : ℕ) (certificate : Certificate) (verdict other : Verdict) → IsJudged shape sizes prices work certificate verdict → IsJudged shape sizes prices work certificate other → verdict ≡ other }
 {}

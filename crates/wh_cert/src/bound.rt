@@ -1,4 +1,4 @@
-//! The pair bound, which no correct strategy stays below.
+//! The pair bound, which no correct strategy stays below, and what it becomes under decisions.
 
 ghost use Rattle.std.specs.Prelude.{◌≡◌, ◌≢◌, ◌++◌, ◌∷◌, [], false, ◌+◌, ◌*◌, ◌^◌, ◌<◌, ◌≤◌, ℕ, List, length};
 ghost use Rattle.std.specs.List.{All, sum_by};
@@ -26,7 +26,7 @@ fn changed_rows(sizes: &Sizes, view: usize) -> u128
     sizes.size(view).change as u128
 }
 
-/// What two views that have a common parent cost, in rows by weight, where the first of them is installed first.
+/// Returns what two views that have a common parent cost, in rows by weight, where the first of them is installed first.
 fn in_order(sizes: &Sizes, first: usize, second: usize) -> u128
     requires first { first < length sizes.now }
     requires second { second < length sizes.now }
@@ -36,7 +36,7 @@ fn in_order(sizes: &Sizes, first: usize, second: usize) -> u128
     sizes.size(second).pre as u128 + sizes.size(first).post as u128
 }
 
-/// The minimum of two views that have a common parent, in rows by weight.
+/// Returns the minimum of two views that have a common parent, in rows by weight.
 pub(crate) fn pair_min(sizes: &Sizes, first: usize, second: usize) -> u128
     requires first { first < length sizes.now }
     requires second { second < length sizes.now }
@@ -48,8 +48,8 @@ pub(crate) fn pair_min(sizes: &Sizes, first: usize, second: usize) -> u128
     kept.min(turned)
 }
 
-/// What two views that have a common parent cost, in rows by weight, by these decisions: that of the decided order, or the minimum
-/// where neither is decided.
+/// Returns what two views that have a common parent cost, in rows by weight, by these decisions. That is the cost in the decided order, or
+/// the minimum where neither order is decided.
 fn decided_value(sizes: &Sizes, decided: &Decisions<'_>, first: usize, second: usize) -> u128
     requires first { first < length sizes.now }
     requires second { second < length sizes.now }
@@ -65,7 +65,7 @@ fn decided_value(sizes: &Sizes, decided: &Decisions<'_>, first: usize, second: u
     }
 }
 
-/// The values of a view with each of these others.
+/// Returns the sum of the values of a view with each of these others.
 fn values_with(sizes: &Sizes, decided: &Decisions<'_>, view: usize, others: &[usize]) -> u128
     requires view { view < length sizes.now }
     requires others { All (λ w. w < length sizes.now) others.now }
@@ -80,7 +80,7 @@ fn values_with(sizes: &Sizes, decided: &Decisions<'_>, view: usize, others: &[us
     total
 }
 
-/// What the Comps of a view over these children read at least by these decisions.
+/// Returns what the Comps of a view over these children read at least by these decisions.
 #[tactic(auto, using(crate::proofs::PairSums::pairs_none, crate::proofs::PairSums::pairs_step))]
 fn least_rows(sizes: &Sizes, decided: &Decisions<'_>, children: &[usize]) -> u128
     requires views { All (λ w. w < length sizes.now) children.now }
@@ -97,10 +97,10 @@ fn least_rows(sizes: &Sizes, decided: &Decisions<'_>, children: &[usize]) -> u12
     changes + values
 }
 
-/// The decided bound at these sizes and costs, in cost times rows by weight: the pair bound with each decided couple at the value
-/// of its decision, the view that is installed first standing first. A couple that is decided both ways counts by the
-/// order in which its parent names the two. Takes no memory: the decisions are looked up in a table on the stack, made first.
-/// Takes O(V C² + D) for V views of at most C children each and D decisions.
+/// Returns the decided bound at these sizes and costs, in cost times rows by weight. It is the pair bound with each decided couple at the
+/// value of its decision, the view that is installed first standing first. A couple that is decided both ways counts by the order in which
+/// its parent names the two. Takes no memory: the decisions are looked up in a table on the stack, made first. Takes O(V C² + D) for V
+/// views of at most C children each and D decisions.
 pub fn decided_bound(shape: &Shape, sizes: &Sizes, costs: Costs, decided: &[(usize, usize)]) -> u128
     requires { length sizes.now ≡ length shape.now.children }
     ensures { result ≡ decided_bound_of shape.now.children (sizes_of sizes.now) (prices_of costs) decided.now }
@@ -117,7 +117,7 @@ pub fn decided_bound(shape: &Shape, sizes: &Sizes, costs: Costs, decided: &[(usi
     costs.comp as u128 * rows + costs.inst as u128 * changes
 }
 
-/// So much more where the view is over both of these.
+/// Returns `more` where the view is over both of these, else 0.
 fn more_at(children: &ChildLists, view: usize, first: usize, second: usize, more: u128) -> u128
     ensures value { result ≡ more_under children.now first second more view }
     ensures small { result ≤ more }
@@ -129,7 +129,7 @@ fn more_at(children: &ChildLists, view: usize, first: usize, second: usize, more
     }
 }
 
-/// What the Comps of all views that are over both of these read more at least, where each reads so much more.
+/// Returns what the Comps of all views that are over both of these read more at least, where each reads `more`.
 fn more_rows(children: &ChildLists, first: usize, second: usize, more: u128) -> u128
     requires { more ≤ 2 ^ 52 }
     ensures value { result ≡ sum_below (more_under children.now first second more) (length children.now) }
@@ -142,9 +142,9 @@ fn more_rows(children: &ChildLists, first: usize, second: usize, more: u128) -> 
     rows
 }
 
-/// The decided bound under one decision more, that the first view of `next` is installed before the second, from the bound without it:
-/// under each common parent the couple costs what it costs in this order, and no longer its minimum. Takes no memory. Takes O(V C)
-/// for V views of at most C children each.
+/// Returns the decided bound under one decision more, that the first view of `next` is installed before the second, from the bound without
+/// it. Under each common parent the couple costs what it costs in this order, and no longer its minimum. Takes no memory. Takes O(V C) for
+/// V views of at most C children each.
 pub fn decided_bound_with(
     shape: &Shape,
     sizes: &Sizes,
@@ -169,7 +169,7 @@ pub fn decided_bound_with(
     bound + costs.comp as u128 * more_rows(shape.child_lists(), first, second, more)
 }
 
-/// The pair bound by its definition: no couple is decided.
+/// Returns the pair bound by its definition: no couple is decided.
 #[tactic(auto, unfolding(crate::specs::Graph::decides))]
 fn bound_of(shape: &Shape, sizes: &Sizes, costs: Costs) -> u128
     requires { length sizes.now ≡ length shape.now.children }
@@ -182,7 +182,7 @@ fn bound_of(shape: &Shape, sizes: &Sizes, costs: Costs) -> u128
     decided_bound(shape, sizes, costs, &[])
 }
 
-/// The pair bound at these sizes and costs, in cost times rows by weight: every correct strategy of the shape, with Comps from any
+/// Returns the pair bound at these sizes and costs, in cost times rows by weight. Every correct strategy of the shape, with Comps from any
 /// number of views, costs at least as much. Takes no memory. Takes O(V C²) for V views of at most C children each.
 pub fn pair_bound(shape: &Shape, sizes: &Sizes, costs: Costs) -> u128
     requires { length sizes.now ≡ length shape.now.children }
@@ -192,7 +192,7 @@ pub fn pair_bound(shape: &Shape, sizes: &Sizes, costs: Costs) -> u128
     bound_of(shape, sizes, costs)
 }
 
-/// A law: over every shape, sizes and costs, every correct strategy costs at least the pair bound.
+/// A law of the definitions: over every shape, sizes and costs, every correct strategy costs at least the pair bound.
 pub fn no_strategy_is_below_the_bound()
     ensures { (shape : List (List ℕ)) (rows : List SizeRow) (prices : Prices) (list : List Expression) → IsShape shape → AreSizeRows rows → IsCorrect shape list → pair_bound_of shape (sizes_of rows) prices ≤ work_of shape (sizes_of rows) prices list }
 {}

@@ -1,4 +1,4 @@
-//! Certificates, and what is planned with one.
+//! Certificates, and what is planned with one. A strategy comes with its certificate, so that its reader need not trust the planner.
 
 ghost use Rattle.std.specs.Prelude.{◌≡◌};
 
@@ -51,7 +51,7 @@ impl PairMins {
         PairMins { lines }
     }
 
-    /// The lines in their order.
+    /// Returns the lines in their order.
     pub fn as_slice(&self) -> &[PairMin]
         ensures { result.now ≡ self.now }
     {
@@ -71,7 +71,7 @@ impl PairMins {
 pub enum Certificate {
     /// The work is the pair bound, which is made of these minima and of the changes: no correct strategy costs less.
     Pairs(PairMins),
-    /// Whatever is decided on the couples, the tree says why no one-way strategy costs less.
+    /// The tree: whatever is decided on the couples, it says why no one-way strategy costs less.
     Search(Tree),
 }
 
@@ -82,9 +82,9 @@ pub enum Verdict {
     All,
     /// It is accepted: no one-way correct strategy costs less.
     OneWay,
-    /// It is not accepted. By pairs, the place is that of the first line that differs from the right one, counted from 1,
-    /// also where it is missing or one too many; it is 0 where all lines are right and the work is not the pair bound. By a
-    /// tree, it is that of its first bad node in preorder, counted from 1.
+    /// It is not accepted, and this is the place of the fault. By pairs, that is the first line that differs from the right one, counted
+    /// from 1, also where it is missing or one too many. It is 0 where all lines are right and the work is not the pair bound. By a tree,
+    /// it is the first bad node in preorder, counted from 1.
     Rejected(usize),
 }
 
@@ -97,6 +97,6 @@ pub struct Planned {
     pub work: u128,
     /// The strategies that it is least among.
     pub scope: Scope,
-    /// The reason, for `certify` to judge.
+    /// The reason why it is least among them, for `certify` to judge.
     pub certificate: Certificate,
 }

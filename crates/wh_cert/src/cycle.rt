@@ -1,4 +1,4 @@
-//! The graph of decided couples as a test: nodes, edges and cycles of expressions.
+//! Tests the graph of decided couples: its nodes, its edges and its cycles of expressions.
 
 ghost use Rattle.std.specs.Prelude.{◌≡◌, ◌↔◌, ◌∷◌, [], ℕ, IsTrue, true};
 ghost use Rattle.wh_dag.specs.Shape.{has, children_of};
@@ -8,7 +8,7 @@ use crate::decisions::decides;
 use wh_dag::ChildLists;
 use wh_strategy::{Expression, Sources};
 
-/// Whether the sources are this view alone.
+/// Returns whether the sources are this view alone.
 fn is_just(sources: &Sources, view: usize) -> bool
     ensures { IsTrue result ↔ (sources.now ≡ view ∷ []) }
 {
@@ -18,7 +18,7 @@ fn is_just(sources: &Sources, view: usize) -> bool
     }
 }
 
-/// Whether the expression is a node: a Comp of a view from one child of it, or an Inst of a view.
+/// Returns whether the expression is a node: a Comp of a view from one child of it, or an Inst of a view.
 fn is_node(children: &ChildLists, expression: &Expression) -> bool
     ensures { IsTrue result ↔ IsNode children.now expression.now }
 {
@@ -31,7 +31,7 @@ fn is_node(children: &ChildLists, expression: &Expression) -> bool
     }
 }
 
-/// Whether the Inst of a view has to stand before this Comp by a decision.
+/// Returns whether the Inst of a view has to stand before this Comp by a decision.
 fn waits_for_inst(
     children: &ChildLists,
     decided: &[(usize, usize)],
@@ -47,7 +47,7 @@ fn waits_for_inst(
     }
 }
 
-/// Whether the first expression has to stand before the second, by the rules or by a decision.
+/// Returns whether the first expression has to stand before the second, by the rules or by a decision.
 fn leads(
     children: &ChildLists,
     decided: &[(usize, usize)],
@@ -70,7 +70,7 @@ fn leads(
     }
 }
 
-/// Whether the expressions are a cycle of the graph of these decisions.
+/// Returns whether the expressions are a cycle of the graph of these decisions.
 pub(crate) fn is_cycle(
     children: &ChildLists,
     decided: &[(usize, usize)],

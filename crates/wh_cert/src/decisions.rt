@@ -1,4 +1,4 @@
-//! Decided couples: which view is installed before which.
+//! Decided couples, looked up in one step: which view is installed before which.
 
 ghost use Rattle.std.specs.Prelude.{◌≡◌};
 ghost use Rattle.wh_cert.specs.Graph.{decides};
@@ -27,7 +27,7 @@ impl<'a> Model for Decisions<'a> {
 }
 
 impl<'a> Decisions<'a> {
-    /// The table of these couples. Takes no memory.
+    /// Makes the table of these couples. Takes no memory.
     pub(crate) fn of(couples: &'a [(usize, usize)]) -> Decisions<'a>
         ensures { result ≡ couples.now }
     {
@@ -37,7 +37,7 @@ impl<'a> Decisions<'a> {
         }
     }
 
-    /// Whether it is decided that the first view is installed before the second.
+    /// Returns whether it is decided that the first view is installed before the second.
     pub(crate) fn decides(&self, first: usize, second: usize) -> bool
         ensures { result ≡ decides self.now first second }
     {
@@ -50,8 +50,8 @@ impl<'a> Decisions<'a> {
     }
 }
 
-/// Whether it is decided that the first view is installed before the second, by going over the couples: for one question
-/// this takes less than making a table.
+/// Returns whether it is decided that the first view is installed before the second, by going over the couples. For one question this takes
+/// less than making a table.
 #[tactic(auto, unfolding(crate::specs::Graph::decides))]
 pub(crate) fn decides(decided: &[(usize, usize)], first: usize, second: usize) -> bool
     ensures { result ≡ decides decided.now first second }

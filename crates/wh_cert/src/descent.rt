@@ -1,4 +1,4 @@
-//! The way down a tree.
+//! The way down a tree, by which its nodes are judged in preorder without recursion.
 
 ghost use Rattle.std.specs.Prelude.{◌≡◌, ◌<◌, ◌≤◌, ◌∷◌, [], length};
 ghost use Rattle.wh_cert.specs.Inner.Descent.{past, turned};
@@ -25,7 +25,7 @@ impl Model for Descent {
 }
 
 impl Descent {
-    /// The way to the root: nothing is decided above it.
+    /// Makes the way to the root: nothing is decided above it.
     pub(crate) fn new() -> Descent
         ensures { result ≡ [] }
     {
@@ -35,7 +35,7 @@ impl Descent {
         }
     }
 
-    /// The decisions, the nearest first.
+    /// Returns the decisions, the nearest first.
     pub(crate) fn as_slice(&self) -> &[(usize, usize)]
         ensures { result.now ≡ self.now }
     {

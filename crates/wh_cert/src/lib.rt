@@ -1,9 +1,8 @@
 //! Certificates that no strategy of a night costs less.
 //!
-//! [`pair_bound`] is a number that no correct strategy stays below, whatever its Comps are from. A
-//! [`Certificate`] gives the reason why a strategy is least, and [`certify`] judges it without trust in
-//! whoever wrote it. A [`Relation`] is a table between views, in which decisions are looked up. Wherever
-//! rows are added up, each counts as often as it weighs.
+//! [`pair_bound`] is a number that no correct strategy stays below, whatever its Comps are from. A [`Certificate`] gives the reason why a
+//! strategy is least, and [`certify`] judges it without trust in whoever wrote it. A [`Relation`] is a table between views, in which
+//! decisions are looked up. Wherever rows are added up, each counts as often as it weighs.
 #![tactic(auto)]
 
 mod acceptance;

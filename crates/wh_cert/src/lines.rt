@@ -1,4 +1,4 @@
-//! The lines of a certificate beside those of the sibling pairs, which are made one by one.
+//! Compares the lines of a certificate with those of the sibling pairs, which are made one by one and not kept.
 
 ghost use Rattle.std.specs.Prelude.{◌≡◌, ◌↔◌, ◌<◌, ◌≤◌, ◌++◌, ◌∷◌, [], List, ℕ, length, IsTrue, MatchOption, Some, slice_get};
 ghost use Rattle.wh_dag.specs.Siblings.{triples_with, triples_of};
@@ -13,14 +13,14 @@ use crate::order::comes_first;
 use wh_dag::{ChildLists, SiblingPair};
 use wh_strategy::Sizes;
 
-/// How many lines are the same from the first on, and whether none differs so far.
+/// How many lines are right from the first on, and whether none differs so far.
 #[derive(Clone, Copy)]
 pub(crate) struct Followed {
     pub(crate) same: usize,
     pub(crate) agrees: bool,
 }
 
-/// The line that a certificate is to have for a sibling pair: its views in the desired order, and their minimum.
+/// Returns the line that a certificate is to have for a sibling pair: its views in the desired order, and their minimum.
 pub fn right_line(sizes: &Sizes, pair: SiblingPair) -> PairMin
     requires lower { pair.lower < length sizes.now }
     requires higher { pair.higher < length sizes.now }
@@ -39,7 +39,7 @@ pub fn right_line(sizes: &Sizes, pair: SiblingPair) -> PairMin
     }
 }
 
-/// Whether this line stands there.
+/// Returns whether this line stands there.
 fn stands_at(lines: &[PairMin], at: usize, line: PairMin) -> bool
     ensures { IsTrue result ↔ (slice_get lines.now at ≡ Some line) }
 {
@@ -127,7 +127,7 @@ fn follow_all(children: &ChildLists, sizes: &Sizes, lines: &[PairMin]) -> Follow
     so_far
 }
 
-/// The first line, counted from 1, that differs from the right one, is missing or is one too many.
+/// Returns the first line, counted from 1, that differs from the right one, is missing or is one too many.
 pub(crate) fn first_wrong(children: &ChildLists, sizes: &Sizes, lines: &[PairMin]) -> Option<usize>
     requires { length sizes.now ≡ length children.now }
     ensures { MatchOption result (lines.now ≡ lines_of children.now (sizes_of sizes.now)) (λ line. DifferFirst lines.now (lines_of children.now (sizes_of sizes.now)) line) }

@@ -1,4 +1,4 @@
-//! The desired order of views.
+//! The desired order of two views, by which plans of least work go.
 
 ghost use Rattle.std.specs.Prelude.{◌≡◌, ◌<◌, length};
 ghost use Rattle.wh_strategy.specs.Sizes.{sizes_of};
@@ -6,7 +6,7 @@ ghost use Rattle.wh_cert.specs.Order.{comes_first};
 
 use wh_strategy::Sizes;
 
-/// Whether the first view comes before the second in the desired order: by net growth, which is `post - pre` of what a view
+/// Returns whether the first view comes before the second in the desired order. It goes by net growth, which is `post - pre` of what a view
 /// counts as, ties by number.
 #[tactic(auto, unfolding(crate::specs::Order::comes_first))]
 pub fn comes_first(sizes: &Sizes, first: usize, second: usize) -> bool

@@ -1,4 +1,4 @@
-//! Relations between views.
+//! Relations between views, as tables, so that two views are looked up in one step.
 
 ghost use Rattle.std.specs.Prelude.{◌≡◌, ◌<◌, ◌==◌, ◌&&◌, ◌||◌, ℕ, false, All};
 ghost use Rattle.wh_dag.specs.Shape.{has, children_of};
@@ -28,7 +28,7 @@ impl Model for Relation {
 }
 
 impl Relation {
-    /// No two views are related.
+    /// Makes the relation in which no two views are related.
     fn new() -> Relation
         ensures { (u w : ℕ) → related result u w ≡ false }
     {
@@ -37,7 +37,8 @@ impl Relation {
         }
     }
 
-    /// Which view is over which. Takes O(V C) for V views of at most C children each, besides the table.
+    /// Makes the relation of views and their children: a view is related to each view that it is over. Takes O(V C) for V views of at most
+    /// C children each, besides the table.
     pub fn of_children(children: &ChildLists) -> Relation
         ensures { (v u : ℕ) → related result v u ≡ has (children_of children.now v) u }
     {
@@ -48,8 +49,8 @@ impl Relation {
         over
     }
 
-    /// Which views have a common parent, a child of a view being related to itself too. Takes O(V C²) for V views of at
-    /// most C children each, besides the table.
+    /// Makes the relation of the views that have a common parent, a child of a view being related to itself too. Takes O(V C²) for V views
+    /// of at most C children each, besides the table.
     pub fn of_siblings(children: &ChildLists) -> Relation
         ensures { (u w : ℕ) → related result u w ≡ have_parent children.now u w }
     {
@@ -60,8 +61,8 @@ impl Relation {
         siblings
     }
 
-    /// Which view stands before which in one of these couples. Numbers that no view has are left out. Takes O(n) for n
-    /// couples, besides the table.
+    /// Makes the relation of these couples: the first view of each is related to the second. Numbers that no view has are left out. Takes
+    /// O(n) for n couples, besides the table.
     pub fn of_couples(couples: &[(usize, usize)]) -> Relation
         ensures { (u w : ℕ) → u < 64 → w < 64 → related result u w ≡ decides couples.now u w }
     {
@@ -74,7 +75,7 @@ impl Relation {
         first
     }
 
-    /// Whether the two are related, in this order. A number above 63, which no view can have, is related to none.
+    /// Returns whether the two are related, in this order. A number above 63, which no view can have, is related to none.
     #[tactic(auto, unfolding(crate::specs::Relations::related))]
     pub fn has(&self, u: usize, w: usize) -> bool
         ensures { result ≡ related self.now u w }

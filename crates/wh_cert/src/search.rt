@@ -1,4 +1,4 @@
-//! The verdict on a tree.
+//! Judges a tree: each of its nodes below the decisions above it.
 
 ghost use Rattle.std.specs.Prelude.{◌≡◌, ◌↔◌, IsTrue, MatchOption, length};
 ghost use Rattle.wh_strategy.specs.Prices.{prices_of};
@@ -22,7 +22,7 @@ fn is_open(children: &ChildLists, decided: &[(usize, usize)], couple: Couple) ->
         && !decides(decided, couple.higher, couple.lower)
 }
 
-/// Whether the node is good below these decisions, for a strategy of this work.
+/// Returns whether the node is good below these decisions, for a strategy of this work.
 fn is_good(
     shape: &Shape,
     sizes: &Sizes,
@@ -41,7 +41,7 @@ fn is_good(
     }
 }
 
-/// The first bad node of the tree in preorder, counted from 1, for a strategy of this work.
+/// Returns the first bad node of the tree in preorder, counted from 1, for a strategy of this work.
 pub(crate) fn first_bad(
     shape: &Shape,
     sizes: &Sizes,

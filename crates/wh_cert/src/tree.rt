@@ -1,4 +1,4 @@
-//! Trees that say why no one-way strategy costs less.
+//! Trees that say why no one-way strategy costs less, as lists of their nodes, so that they are read and judged in one pass.
 
 ghost use Rattle.std.specs.Prelude.{◌≡◌, ◌≤◌, ◌++◌, MatchOption, IsTrue, ◌↔◌};
 ghost use Rattle.wh_cert.specs.Tree.{CaseTree, IsTreeOf, tree_of};
@@ -14,10 +14,10 @@ pub const MAX_DEPTH: usize = 1000;
 /// A node of a tree, without those below it.
 #[derive(Debug, Drop)]
 pub enum TreeNode {
-    /// By the couples that are decided above, the bound is at least the work: no strategy that keeps to them costs less.
+    /// A leaf: by the couples that are decided above, the bound is at least the work, so no strategy that keeps to them costs less.
     Bound,
-    /// By the couples that are decided above, these expressions are a cycle, each to stand before the next one and the
-    /// last one before the first: no strategy keeps to them.
+    /// A leaf: by the couples that are decided above, these expressions are a cycle, each to stand before the next one and the last one
+    /// before the first. No strategy keeps to them.
     Cycle(Strategy),
     /// A couple that is not decided above: the tree that follows decides that its lower view is installed first, the one
     /// after that the contrary.
@@ -57,7 +57,7 @@ impl Tree {
         }
     }
 
-    /// The nodes in preorder.
+    /// Returns the nodes in preorder.
     pub fn as_slice(&self) -> &[TreeNode]
         ensures nodes { result.now ≡ self.now }
         ensures tree { IsTreeOf self.now (tree_of self.now) }
@@ -73,7 +73,7 @@ impl Tree {
     }
 }
 
-/// The nodes after the first tree of these, where there is one that is at most so deep.
+/// Returns the nodes after the first tree of these, where there is one that is at most so deep.
 fn after_tree(nodes: &[TreeNode], deep: usize) -> Option<&[TreeNode]>
     ensures { MatchOption result (NoTreeFirst deep nodes.now) (λ rest. IsTreeFirst deep nodes.now rest.now) }
 {
@@ -93,7 +93,7 @@ fn after_tree(nodes: &[TreeNode], deep: usize) -> Option<&[TreeNode]>
     }
 }
 
-/// Whether the nodes are those of one tree that is not too deep.
+/// Returns whether the nodes are those of one tree that is not too deep.
 fn is_whole(nodes: &[TreeNode]) -> bool
     ensures { IsTrue result ↔ IsTreeOf nodes.now (tree_of nodes.now) }
 {

@@ -4,6 +4,7 @@ use Rattle.std.specs.Prelude.{◌≢◌, ◌^◌, ◌==◌, is_some, is_none, na
 use mathlib.Core.Logic.{◌⊎◌, inl, inr}
 use Rattle.wh_store.specs.Pages.{Shown, page_of}
 use Rattle.wh_store.specs.Versions.{number, is_active, is_unexpired, version, table_of}
+use Rattle.wh_store.specs.Readers.{goes_on}
 use Rattle.wh_carry.specs.Night.{Night, ArePassedAt, places_from, AreAllowed}
 use Rattle.wh_carry.specs.Legs.{Turn, In_wave, At_page, Over, after_done, after_page, carried_up_to, is_last, legs_of, turn_of, untouched}
 use Rattle.wh_row.specs.Weigh.{Counted}
@@ -15,7 +16,7 @@ use Rattle.wh_core.specs.declared.reply.Reply.{Reply}
 use Rattle.wh_core.specs.declared.reply.Reply.TheVariants as reply
 use Rattle.wh_core.specs.Log.{Deed, Log, Began, Drew, Finished, Paged_in, Committed, Gave_up, Sat_down, Turned, Left, SessionOf, logged, nights_begun, is_open, holding, session}
 use Rattle.wh_core.specs.Nights.{Setup, next_night, night, remaining, turn, versions}
-use Rattle.wh_core.specs.Replies.{IsCarried, IsLegalLog, IsReply, IsRuled, Ruling, Says, Takes, Puts, Starts, nothing, more, unless, carried_by_done, goes_on, read_ruling, take_ruling, done_by, done_ruling, page_ruling, commit_ruling, ruling}
+use Rattle.wh_core.specs.Replies.{IsCarried, IsLegalLog, IsReply, IsRuled, Ruling, Says, Takes, Puts, Starts, nothing, more, unless, carried_by_done, read_ruling, take_ruling, done_by, done_ruling, page_ruling, commit_ruling, ruling}
 
 -- what was known when a deed was done
 abbrev pub IsDeed : Setup → Log → Deed → Type 0
@@ -33,7 +34,7 @@ IsDeed s log Committed = (is_open log ≡ true) × (turn s log ≡ Over)
 IsDeed s log Gave_up = is_open log ≡ true
 IsDeed s log (Sat_down d v) = (session log d ≡ None) × (v ≡ number (versions s log))
 IsDeed s log (Turned d view page) =
-    (of : SessionOf) × (session log d ≡ Some of) × (is_unexpired s.versions (versions s log) of.version ≡ true) × (limit : ℕ) × (1 ≤ limit)
+    (of : SessionOf) × (session log d ≡ Some of) × (is_unexpired s.versions (number (versions s log)) (is_active (versions s log)) of.version ≡ true) × (limit : ℕ) × (1 ≤ limit)
     × (page ≡ page_of (table_of (versions s log) of.version view) (goes_on view of.bookmark) limit)
 IsDeed s log (Left d) = (of : SessionOf) × (session log d ≡ Some of)
 
@@ -162,11 +163,11 @@ open_leaves s log d (reply.Session v) h =
 open_leaves s log d r h = inl refl
 
 read_turn : (s : Setup) (log : Log) (view limit : ℕ) (page : Shown) (o : Option SessionOf) → IsRuled (read_ruling s.versions (versions s log) view limit o) (reply.Page page)
-    → (of : SessionOf) × (o ≡ Some of) × (is_unexpired s.versions (versions s log) of.version ≡ true) × (k : ℕ) × (1 ≤ k) × (page ≡ page_of (table_of (versions s log) of.version view) (goes_on view of.bookmark) k)
+    → (of : SessionOf) × (o ≡ Some of) × (is_unexpired s.versions (number (versions s log)) (is_active (versions s log)) of.version ≡ true) × (k : ℕ) × (1 ≤ k) × (page ≡ page_of (table_of (versions s log) of.version view) (goes_on view of.bookmark) k)
 read_turn s log view limit page None h = cc
 read_turn s log view limit page (Some of) h =
     let accepted : (other : Cause) → reply.Page page ≢ reply.Refused other = λ c e. cc in
-    let a = through (not (is_unexpired s.versions (versions s log) of.version)) _ _ (reply.Page page) accepted h in
+    let a = through (not (is_unexpired s.versions (number (versions s log)) (is_active (versions s log)) of.version)) _ _ (reply.Page page) accepted h in
     let b = through (nat_le (length (version (versions s log) of.version)) view) _ _ (reply.Page page) accepted a.1 in
     let c = through ((limit == 0) || nat_lt 256 limit) _ _ (reply.Page page) accepted b.1 in
     let d = taken _ (reply.Page page) accepted c.1 in

@@ -17,6 +17,8 @@ use Rattle.wh_carry.specs.Carry.{State, carried, step}
 use Rattle.wh_carry.specs.Waves.{comp_of, expressions_of}
 use Rattle.wh_carry.specs.NightList.{inst_pages, puts_at, puts_of}
 use Rattle.wh_carry.specs.Legs.{Leg, Wave, Page, legs_after}
+use Rattle.wh_core.specs.Headline.{comps}
+use Rattle.wh_core.proofs.Counts.{comps-append, comps-jobs, jobs_of, no_jobs, only_pages}
 use Rattle.wh_core.proofs.Underway.{come_to, ops_of, ops-append}
 
 -- ---- pages of an Inst among the legs
@@ -58,7 +60,7 @@ module _ (g : ViewGraph) (changes : ℕ → Bag) (keys : ℕ) where
   no_puts [] s = refl
   no_puts (j ∷ jobs) s = no_puts jobs (step g changes (comp_of j) s)
 
-  -- a beginning of the list that publishes what these legs do, and perhaps some pages more
+  -- a beginning of the list that has the Comps of these legs and publishes what they do, and perhaps some pages more
   pub record IsFront (place : ℕ) (s : State) (list : List Expression) (over rest : List Leg) : Type 0 where
     pub front : List Expression
     pub back : List Expression
@@ -67,6 +69,7 @@ module _ (g : ViewGraph) (changes : ℕ → Bag) (keys : ℕ) where
     pub more : List Operation
     pub puts : puts_of g changes keys front s ≡ ops_of over ++ more
     pub exact : rest ≡ [] → more ≡ []
+    pub comps_are : comps front ≡ jobs_of over
 
   pub front_of : (place : ℕ) (s : State) (stages : List Stage) (over rest : List Leg) → legs_after g changes keys place s stages ≡ over ++ rest
       → IsFront place s (flat_map expressions_of stages) over rest
@@ -79,6 +82,7 @@ module _ (g : ViewGraph) (changes : ℕ → Bag) (keys : ℕ) where
     more = [];
     puts = refl;
     exact = λ t. refl;
+    comps_are = refl;
   }
   front_of place s [] (x ∷ over) rest e = cc
   front_of place s (stage.Wave jobs ∷ stages) [] rest e = record {
@@ -89,6 +93,7 @@ module _ (g : ViewGraph) (changes : ℕ → Bag) (keys : ℕ) where
     more = [];
     puts = refl;
     exact = λ t. refl;
+    comps_are = refl;
   }
   front_of place s (stage.Wave jobs ∷ stages) (x ∷ over) rest e =
       let later : List Leg = legs_after g changes keys (place + length jobs) (carried g changes (map comp_of jobs) s) stages in
@@ -108,6 +113,8 @@ module _ (g : ViewGraph) (changes : ℕ → Bag) (keys : ℕ) where
         more = r.more;
         puts = puts-append (map comp_of jobs) r.front s ∙ (λ i. no_puts jobs s i ++ r.puts i) ∙ ap (λ y. ops_of (y ∷ over) ++ r.more) head;
         exact = r.exact;
+        comps_are = (let p = comps-append (map comp_of jobs) r.front in let q = comps-jobs jobs in let o = r.comps_are in let z : comps (map comp_of jobs ++ r.front) ≡ length jobs + jobs_of over = omega (arith, p, q, o) in z)
+            ∙ ap (λ y. jobs_of (y ∷ over)) head;
       }
   front_of place s (stage.Inst v ∷ stages) over rest e =
       let after_it : State = step g changes (Inst v) s in
@@ -122,6 +129,7 @@ module _ (g : ViewGraph) (changes : ℕ → Bag) (keys : ℕ) where
           more = map (Writes v) (page ∷ after);
           puts = append-nil (map (Writes v) pages) ∙ ap (map (Writes v)) a ∙ writes-append v before (page ∷ after) ∙ ap (λ l. l ++ map (Writes v) (page ∷ after)) (sym (ap ops_of b ∙ ops-pages place v before));
           exact = λ t. absurd (cons_not_nil (sym c ∙ t));
+          comps_are = sym (ap jobs_of b ∙ only_pages place v before);
         }
         | behind more b c ↦
             let r = front_of (place + 1) after_it stages more rest c in
@@ -136,6 +144,7 @@ module _ (g : ViewGraph) (changes : ℕ → Bag) (keys : ℕ) where
               puts = (λ i. map (Writes v) pages ++ r.puts i) ∙ sym (append_assoc (map (Writes v) pages) (ops_of more) r.more)
                   ∙ ap (λ l. l ++ r.more) (sym (ap ops_of b ∙ ops-append (map (Page place v) pages) more ∙ ap (λ l. l ++ ops_of more) (ops-pages place v pages)));
               exact = r.exact;
+              comps_are = r.comps_are ∙ sym (ap jobs_of b ∙ no_jobs place v pages more);
             }
       ]
     where

@@ -6,15 +6,16 @@ use Rattle.wh_row.specs.Row.{Row}
 use Rattle.wh_store.specs.Pages.{Shown, page_of}
 use Rattle.wh_store.specs.Versions.{Versions, is_active, is_unexpired, number, table_of, version}
 use Rattle.wh_store.specs.Windows.{Window, unexpired}
+use Rattle.wh_store.specs.Readers.{bookmark_after, goes_on}
 use Rattle.wh_core.specs.declared.event.Event.TheVariants as event
 use Rattle.wh_core.specs.declared.machine.Machine.{Machine}
 use Rattle.wh_core.specs.declared.reply.Cause.TheVariants as cause
 use Rattle.wh_core.specs.declared.reply.Reply.{Reply}
 use Rattle.wh_core.specs.declared.reply.Reply.TheVariants as reply
 use Rattle.wh_core.specs.declared.session.Seat.{Seat}
-use Rattle.wh_core.specs.Log.{Log, SessionOf, Sat_down, Turned, Left, bookmark_after, session}
+use Rattle.wh_core.specs.Log.{Log, SessionOf, Sat_down, Turned, Left, session}
 use Rattle.wh_core.specs.Nights.{Setup, versions}
-use Rattle.wh_core.specs.Replies.{IsReply, IsRuled, Ruling, Says, Takes, goes_on, read_ruling, unless}
+use Rattle.wh_core.specs.Replies.{IsReply, IsRuled, Ruling, Says, Takes, read_ruling, unless}
 use Rattle.wh_core.specs.Standing.{Stands, session_of}
 use Rattle.wh_core.proofs.Steps.{le_false, onward, refuse}
 use Rattle.wh_core.proofs.Moves.{eq_true, slot_set}
@@ -64,15 +65,15 @@ turned log d w view page of new seat is =
     ] refl
 
 module _ (s : Setup) (log : Log) (m : Machine) (h : Stands s log m) where
-  pub unexpired_here : (k : ℕ) → unexpired m.store k ≡ is_unexpired s.versions (versions s log) k
-  unexpired_here k = ap (λ (w : Window). unexpired w k) h.shows ∙ ap (λ n. is_unexpired n (versions s log) k) h.versions
+  pub unexpired_here : (k : ℕ) → unexpired m.store k ≡ is_unexpired s.versions (number (versions s log)) (is_active (versions s log)) k
+  unexpired_here k = ap (λ (w : Window). unexpired w k) h.shows ∙ ap (λ n. is_unexpired n (number (versions s log)) (is_active (versions s log)) k) h.versions
 
   module _ (d view limit : ℕ) (of : SessionOf) (l : d < length m.seats.items) (seat : session log d ≡ Some of) (alive : unexpired m.store of.version ≡ true) (there : view < length (version (versions s log) of.version)) where
     -- a page is read, but for its size
     sized : (r : Reply) → IsRuled (unless ((limit == 0) || nat_lt 256 limit) cause.Limit (Takes (page_of (table_of (versions s log) of.version view) (goes_on view of.bookmark) limit))) r
         → IsReply s log (event.Read d view limit) r
     sized r k = reads s log m h d l view limit r (Some of) seat
-        (onward (not (is_unexpired s.versions (versions s log) of.version)) (cause.Expired of.version (number (versions s log)) (is_active (versions s log))) _ r (ap not (sym (unexpired_here of.version) ∙ alive))
+        (onward (not (is_unexpired s.versions (number (versions s log)) (is_active (versions s log)) of.version)) (cause.Expired of.version (number (versions s log)) (is_active (versions s log))) _ r (ap not (sym (unexpired_here of.version) ∙ alive))
         (onward (nat_le (length (version (versions s log) of.version)) view) cause.NoView _ r (le_false (length (version (versions s log) of.version)) view there) k))
 
     pub wrong_limit : (limit == 0) || nat_lt 256 limit ≡ true → IsReply s log (event.Read d view limit) (reply.Refused cause.Limit)

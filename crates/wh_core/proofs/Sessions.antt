@@ -11,10 +11,10 @@ use Rattle.wh_store.specs.Laws.{PagesJoin, ReadsOn, VersionsStay, ends, goes_on 
 use Rattle.wh_store.specs.Operations.{Operation, Opens, Writes, Commits, Gives_up}
 use Rattle.wh_store.specs.Pages.{Shown, page_of, rows_after}
 use Rattle.wh_store.specs.Versions.{number, table_in, table_of, version, versions_of}
+use Rattle.wh_store.specs.Readers.{Bookmark, bookmark_after, goes_on}
 use Rattle.wh_core.specs.Laws.{SessionsReadTables, goes_on_from, pages_read}
-use Rattle.wh_core.specs.Log.{Deed, Log, Began, Drew, Finished, Paged_in, Committed, Gave_up, Sat_down, Turned, Left, Bookmark, SessionOf, bookmark_after, session}
+use Rattle.wh_core.specs.Log.{Deed, Log, Began, Drew, Finished, Paged_in, Committed, Gave_up, Sat_down, Turned, Left, SessionOf, session}
 use Rattle.wh_core.specs.Nights.{Setup, last_night, page_in_turn, published, turn_in, versions}
-use Rattle.wh_core.specs.Replies.{goes_on}
 use Rattle.wh_core.proofs.Deeds.{AreDeeds, IsDeed, none, one_more, deeds_of}
 
 -- ---- the published list only grows

@@ -7,6 +7,7 @@ use Rattle.wh_dag.specs.Shape.{Distinct, has}
 use Rattle.wh_maint.specs.declared.fault.MaintFault.{MaintFault}
 use Rattle.wh_store.specs.Pages.{Shown, page_of}
 use Rattle.wh_store.specs.Versions.{is_active, is_unexpired, number, table_of, version}
+use Rattle.wh_store.specs.Readers.{goes_on}
 use Rattle.wh_carry.specs.Night.{Night, ArePassedAt, IsFaultAt, IsFirstFaultOf, IsPassedAt, places_from, AreAllowed}
 use Rattle.wh_carry.specs.Legs.{Leg, Wave, Turn, In_wave, At_page, Over, after_done, after_page, carried_up_to, is_last, legs_of, turn_at, turn_of, untouched}
 use Rattle.wh_carry.proofs.Places.{places_are}
@@ -19,7 +20,7 @@ use Rattle.wh_core.specs.declared.reply.Reply.TheVariants as reply
 use Rattle.wh_core.specs.Laws.{IsBefore, IsToldInTurn, RefusalsAreToldInTurn, after_inst, after_wave, before_first, is_of_rows, of_base, of_job}
 use Rattle.wh_core.specs.Log.{Log, SessionOf, holding, is_open, nights_begun, pages, session}
 use Rattle.wh_core.specs.Nights.{Setup, next_night, night, published, remaining, remaining_in, turn, versions}
-use Rattle.wh_core.specs.Replies.{IsCarried, IsLegalLog, IsReply, IsRuled, Ruling, Says, Takes, Puts, carried_by_done, cause_of, commit_ruling, done_by, goes_on, page_ruling, read_ruling, take_ruling, unless}
+use Rattle.wh_core.specs.Replies.{IsCarried, IsLegalLog, IsReply, IsRuled, Ruling, Says, Takes, Puts, carried_by_done, cause_of, commit_ruling, done_by, page_ruling, read_ruling, take_ruling, unless}
 use Rattle.wh_core.specs.Standing.{IsWithin}
 use Rattle.wh_core.proofs.Deeds.{deeds_of, not_false}
 use Rattle.wh_core.proofs.Underway.{Underway, all-head, all-tail, all_below, head_or, night-began, night-paged, now, of_legs, start_of, underway, wave_legs, wave_place}
@@ -301,7 +302,7 @@ module _ (s : Setup) (log : Log) (why : Cause) (is : is_of_rows why ≡ true) wh
   no_read view limit None h = not_other why cause.NoSession is refl h
   no_read view limit (Some of) h =
       let v = versions s log in
-      let a = onwards (not (is_unexpired s.versions v of.version)) (cause.Expired of.version (number v) (is_active v)) _ why is refl h in
+      let a = onwards (not (is_unexpired s.versions (number v) (is_active v) of.version)) (cause.Expired of.version (number v) (is_active v)) _ why is refl h in
       let b = onwards (nat_le (length (version v of.version)) view) cause.NoView _ why is refl a.1 in
       let c = onwards ((limit == 0) || nat_lt 256 limit) cause.Limit _ why is refl b.1 in
       no_taking (page_of (table_of v of.version view) (goes_on view of.bookmark) limit) c.1

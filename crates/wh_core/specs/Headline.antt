@@ -1,24 +1,32 @@
 -- What a list of events comes to with its replies, whatever the order of workers', readers' and the writer's steps: which contents each
--- version has, and what readers see of them.
-use Rattle.std.specs.Prelude.{◌≡◌, ◌≢◌, ◌⊎◌, ℕ, ◌+◌, ◌^◌, ◌<◌, ◌≤◌, List, [], ◌∷◌, length, reverse, slice_get, take, Some, None, Bool, true, false}
+-- version has, what readers see of them, and what each refusal is for.
+use Rattle.std.specs.Prelude.{◌≡◌, ◌≢◌, ◌⊎◌, ℕ, zero, suc, negsuc, ◌+ℤ◌, ◌≤ℤ◌, ◌+◌, ◌^◌, ◌<◌, ◌≤◌, List, [], ◌∷◌, length, reverse, slice_get, take, Some, None, Bool, true, false}
 use Rattle.std.specs.List.{flat_map}
-use Rattle.wh_row.specs.Bag.{written}
+use Rattle.wh_dag.specs.Shape.{children_of}
+use Rattle.wh_strategy.specs.declared.expression.Expression.{Expression}
+use Rattle.wh_strategy.specs.declared.expression.Expression.TheVariants.{Comp, Inst}
+use Rattle.wh_row.specs.Row.{Row}
+use Rattle.wh_row.specs.Bag.{SumFits, count, difference_of, written}
 use Rattle.wh_maint.specs.Comp.{bag_at}
 use Rattle.wh_maint.specs.Contents.{AreContents, AreContentsOf}
 use Rattle.wh_maint.specs.Definition.{graph_of}
 use Rattle.wh_maint.specs.Laws.{changed}
-use Rattle.wh_store.specs.Pages.{Contents, Shown, page_of}
-use Rattle.wh_store.specs.Versions.{kept_count, table_in}
+use Rattle.wh_carry.specs.NightList.{pages_of}
+use Rattle.wh_store.specs.Pages.{Contents, Shown}
+use Rattle.wh_store.specs.Versions.{table_in}
+use Rattle.wh_store.specs.Readers.{goes_on, read_by}
 use Rattle.wh_core.specs.declared.event.Event.{Event}
 use Rattle.wh_core.specs.declared.event.Event.TheVariants.{Begin, Take, Done, PageIn, Commit, GiveUp, Open, Read, Close}
 use Rattle.wh_core.specs.declared.reply.Cause.{Cause}
 use Rattle.wh_core.specs.declared.reply.Cause.TheVariants as cause
 use Rattle.wh_core.specs.declared.reply.Reply.{Reply}
 use Rattle.wh_core.specs.declared.reply.Reply.TheVariants as reply
-use Rattle.wh_core.specs.Log.{Log, SessionOf, is_open, nights_ended, session}
+use Rattle.wh_core.specs.Log.{Log, Began, Drew, Finished, SessionOf, holding, is_open, nights_ended, pages, session}
 use Rattle.wh_core.specs.Nights.{GivenNight, Setup}
-use Rattle.wh_core.specs.Laws.{IsSetup, is_of_rows, log_after, pages_read}
-use Rattle.wh_core.specs.Replies.{IsLegalRun, IsMemory, goes_on}
+use Rattle.wh_core.specs.Laws.{IsSetup, log_after, pages_read}
+use Rattle.wh_core.specs.Replies.{IsLegalRun, unread_cause}
+
+-- ---- events and replies
 
 -- what was done before the event at this place
 abbrev pub done_before : List Event → List Reply → ℕ → Log
@@ -28,99 +36,125 @@ done_before events replies place = log_after [] (take place events) (take place 
 abbrev pub IsAnswered : List Event → List Reply → ℕ → Event → Reply → Type 0
 IsAnswered events replies place event r = (slice_get events place ≡ Some event) × (slice_get replies place ≡ Some r)
 
--- the reply is a refusal, or one that answers such an event
-abbrev pub is_reply_to : Event → Reply → Bool
-is_reply_to event (reply.Refused why) = true
-is_reply_to Begin reply.Begun = true
-is_reply_to (Take worker) (reply.Job n) = true
-is_reply_to (Done worker) reply.Done = true
-is_reply_to PageIn (reply.Paged n) = true
-is_reply_to Commit (reply.Version v) = true
-is_reply_to GiveUp (reply.Version v) = true
-is_reply_to (Open desk) (reply.Session v) = true
-is_reply_to (Read desk view limit) (reply.Page page) = true
-is_reply_to (Close desk) reply.Closed = true
-is_reply_to event r = false
+-- it is this one, or a refusal
+abbrev pub IsOrRefused : Reply → Reply → Type 0
+IsOrRefused said r = (r ≡ said) ⊎ ((why : Cause) × (r ≡ reply.Refused why))
 
--- night n, from 0, carries version n over to version n + 1: every view is its definition over the base with the night's changes
-abbrev pub CarriesOver : Setup → (ℕ → Contents) → ℕ → Type 0
-CarriesOver s made n =
-    (given : GivenNight) × (slice_get s.nights n ≡ Some given)
-    × AreContentsOf (graph_of s.catalog) (changed (bag_at (made n)) (bag_at given.changes)) (bag_at (made (n + 1)))
+-- ---- nights
 
--- this version can be read: it is one of the last of which the contents are kept, one less while a night is open
-abbrev pub IsReadable : Setup → Log → ℕ → Type 0
-IsReadable s log v = (v ≤ nights_ended log) × (nights_ended log < v + kept_count s.versions (is_open log))
+-- the open night is this one of those that were given
+abbrev pub IsTonight : Setup → Log → GivenNight → Type 0
+IsTonight s log given = (is_open log ≡ true) × (slice_get s.nights (nights_ended log) ≡ Some given)
 
--- the page that a session reads next of a view, at most so many rows, where versions have these contents
-abbrev pub next_page : (ℕ → Contents) → SessionOf → ℕ → ℕ → Shown
-next_page made of view limit = page_of (table_in (made of.version) view) (goes_on view of.bookmark) limit
+-- a night makes the second contents of the first: every view is its definition over the base with the night's changes
+abbrev pub Makes : Setup → GivenNight → Contents → Contents → Type 0
+Makes s given old new = AreContentsOf (graph_of s.catalog) (changed (bag_at old) (bag_at given.changes)) (bag_at new)
 
--- how a Begin is answered where no night is open and one is left: it is taken, but for want of memory, where the numbers of versions are
--- used up, or for what the night's changes and expressions come to
-pub data IsBegun (log : Log) : Reply → Type 0 where
-  has_begun : IsBegun log reply.Begun
-  wants_memory : IsBegun log (reply.Refused cause.Memory)
-  last_version : nights_ended log + 1 ≡ 2 ^ 64 → IsBegun log (reply.Refused cause.LastVersion)
-  of_rows : (why : Cause) → is_of_rows why ≡ true → IsBegun log (reply.Refused why)
+-- how many Comps a strategy has
+abbrev pub comps : List Expression → ℕ
+comps [] = 0
+comps (Comp v ys ∷ list) = comps list + 1
+comps (Inst v ∷ list) = comps list
 
--- a desk that is there and has no session gets one, of the version that is current
-pub record IsNewSession (s : Setup) (log : Log) (desk v : ℕ) : Type 0 where
-  pub there : desk < s.desks
-  pub free : session log desk ≡ None
-  pub current : v ≡ nights_ended log
+-- what of a strategy stands before its Comp of this number, from 0
+abbrev pub before_comp : ℕ → List Expression → List Expression
+before_comp n [] = []
+before_comp n (Inst v ∷ list) = Inst v ∷ before_comp n list
+before_comp zero (Comp v ys ∷ list) = []
+before_comp (suc n) (Comp v ys ∷ list) = Comp v ys ∷ before_comp n list
 
--- a page that a desk is shown is the next one of its session, whose version can be read, of a view that is there, by a limit that a page may
--- have
-pub record IsNextPage (s : Setup) (made : ℕ → Contents) (log : Log) (desk view limit : ℕ) (page : Shown) : Type 0 where
-  pub of : SessionOf
-  pub sits : session log desk ≡ Some of
-  pub readable : IsReadable s log of.version
-  pub there : view < length s.catalog.views.children
-  pub some_rows : 1 ≤ limit
-  pub few_rows : limit ≤ 256
-  pub is : page ≡ next_page made of view limit
+-- how many jobs are drawn in the open night, and how many are done
+abbrev pub jobs_drawn : Log → ℕ
+jobs_drawn [] = 0
+jobs_drawn (Began ∷ log) = 0
+jobs_drawn (Drew w n ∷ log) = jobs_drawn log + 1
+jobs_drawn (d ∷ log) = jobs_drawn log
 
--- Each event has one reply, its own or a refusal, and each version has contents. Version 0 has the opening ones, and every version up to the
--- current one the contents of a base. Nights begin, and end by versions; sessions open, and read pages.
--- Left to a legal run are the replies of jobs and pages put, and so whether a Commit is ready; who does which job, in which order of the
--- strategy; which cause a refusal has; and where a Begin is refused for what its night comes to, whether the night does come to that.
+abbrev pub jobs_done : Log → ℕ
+jobs_done [] = 0
+jobs_done (Began ∷ log) = 0
+jobs_done (Finished w ∷ log) = jobs_done log + 1
+jobs_done (d ∷ log) = jobs_done log
+
+-- how many pages of at most so many rows those rows fill that count otherwise in the new contents, in the views that these expressions install
+abbrev pub pages_for : ℕ → Contents → Contents → List Expression → ℕ
+pages_for keys old new [] = 0
+pages_for keys old new (Comp v ys ∷ list) = pages_for keys old new list
+pages_for keys old new (Inst v ∷ list) = length (pages_of keys (written (difference_of (table_in new v) (table_in old v)))) + pages_for keys old new list
+
+-- a changed row of a view that these expressions install is not put yet: whatever contents the open night makes, they fill more pages
+abbrev pub IsUnpaged : Setup → (ℕ → Contents) → Log → GivenNight → List Expression → Type 0
+IsUnpaged s made log given list = (new : Contents) → Makes s given (made (nights_ended log)) new → pages log < pages_for s.keys (made (nights_ended log)) new list
+
+-- each way to answer a Begin: it is refused in a night, where no night or no number of a version is left, for rows of base views, and for want of memory
+pub data IsBegun (s : Setup) (made : ℕ → Contents) (log : Log) : Reply → Type 0 where
+  has_begun : is_open log ≡ false → nights_ended log < length s.nights → IsBegun s made log reply.Begun
+  in_a_night : is_open log ≡ true → IsBegun s made log (reply.Refused cause.NightOpen)
+  no_night_left : is_open log ≡ false → length s.nights ≤ nights_ended log → IsBegun s made log (reply.Refused cause.NoNight)
+  wants_memory : is_open log ≡ false → nights_ended log < length s.nights → IsBegun s made log (reply.Refused cause.Memory)
+  last_version : is_open log ≡ false → nights_ended log + 1 ≡ 2 ^ 64 → IsBegun s made log (reply.Refused cause.LastVersion)
+  lacks_a_row : is_open log ≡ false → (given : GivenNight) (b : ℕ) (row : Row) → slice_get s.nights (nights_ended log) ≡ Some given → children_of s.catalog.views.children b ≡ []
+      → (count (table_in (made (nights_ended log)) b) row +ℤ count (bag_at given.changes b) row) ≤ℤ negsuc 0 → IsBegun s made log (reply.Refused cause.Absent)
+  counts_too_high : is_open log ≡ false → (given : GivenNight) (b : ℕ) → slice_get s.nights (nights_ended log) ≡ Some given → children_of s.catalog.views.children b ≡ []
+      → ¬ (SumFits (table_in (made (nights_ended log)) b) (bag_at given.changes b)) → IsBegun s made log (reply.Refused cause.Large)
+
+-- Each way to answer a Take. In a night a worker without a job is refused one only where all Comps are drawn, where a drawn one is not done, or
+-- where a row is not put yet that changes in a view whose Inst stands before the next Comp
+pub data IsTaken (s : Setup) (made : ℕ → Contents) (log : Log) (worker : ℕ) : Reply → Type 0 where
+  draws : (n : ℕ) → worker < s.workers → is_open log ≡ true → holding log worker ≡ None → IsTaken s made log worker (reply.Job n)
+  no_worker : s.workers ≤ worker → IsTaken s made log worker (reply.Refused cause.NoWorker)
+  outside_nights : is_open log ≡ false → IsTaken s made log worker (reply.Refused cause.NoNight)
+  has_a_job : (job : ℕ) → holding log worker ≡ Some job → IsTaken s made log worker (reply.Refused cause.Busy)
+  all_drawn : (given : GivenNight) → IsTonight s log given → jobs_drawn log ≡ comps given.list → IsTaken s made log worker (reply.Refused cause.NoJob)
+  one_undone : is_open log ≡ true → jobs_done log < jobs_drawn log → IsTaken s made log worker (reply.Refused cause.NoJob)
+  pages_first : (given : GivenNight) → IsTonight s log given → IsUnpaged s made log given (before_comp (jobs_drawn log) given.list) → IsTaken s made log worker (reply.Refused cause.NoJob)
+
+-- Each way to answer a Commit: it makes the next version, of the open night's changes, unless a Comp is not done, or a changed row not put
+pub data IsCommitted (s : Setup) (made : ℕ → Contents) (log : Log) : Reply → Type 0 where
+  makes_a_version : (given : GivenNight) → IsTonight s log given → Makes s given (made (nights_ended log)) (made (nights_ended log + 1)) → IsCommitted s made log (reply.Version (nights_ended log + 1))
+  nothing_to_commit : is_open log ≡ false → IsCommitted s made log (reply.Refused cause.NoNight)
+  comps_left : (given : GivenNight) → IsTonight s log given → jobs_done log < comps given.list → IsCommitted s made log (reply.Refused cause.NotReady)
+  pages_left : (given : GivenNight) → IsTonight s log given → IsUnpaged s made log given given.list → IsCommitted s made log (reply.Refused cause.NotReady)
+
+-- each way to answer a GiveUp: an open night can always be given up, which makes the next version too, with the contents of the one before it
+pub data IsGivenUp (made : ℕ → Contents) (log : Log) : Reply → Type 0 where
+  gives_up : is_open log ≡ true → made (nights_ended log + 1) ≡ made (nights_ended log) → IsGivenUp made log (reply.Version (nights_ended log + 1))
+  nothing_to_give_up : is_open log ≡ false → IsGivenUp made log (reply.Refused cause.NoNight)
+
+-- ---- readers
+
+-- each way to answer an Open: no desk that is there and has no session is refused one, or waits for it, and it is of the current version
+pub data IsOpened (s : Setup) (log : Log) (desk : ℕ) : Reply → Type 0 where
+  gets_a_session : desk < s.desks → session log desk ≡ None → IsOpened s log desk (reply.Session (nights_ended log))
+  no_desk : s.desks ≤ desk → IsOpened s log desk (reply.Refused cause.NoDesk)
+  has_a_session : (of : SessionOf) → session log desk ≡ Some of → IsOpened s log desk (reply.Refused cause.SessionOpen)
+
+-- Each way to answer a Read: by the rule for readers, in the contents of its session's version, whatever was made since. Rows may want memory
+pub data IsRead (s : Setup) (made : ℕ → Contents) (log : Log) (desk view limit : ℕ) : Reply → Type 0 where
+  by_the_rule : (of : SessionOf) → desk < s.desks → session log desk ≡ Some of → IsRead s made log desk view limit
+      (read_by (λ why. reply.Refused (unread_cause why)) reply.Page s.versions (nights_ended log) (is_open log) (made of.version) of.version view (goes_on view of.bookmark) limit)
+  rows_want_memory : (page : Shown) → IsRead s made log desk view limit (reply.Page page) → page.rows ≢ [] → IsRead s made log desk view limit (reply.Refused cause.Memory)
+  not_a_desk : s.desks ≤ desk → IsRead s made log desk view limit (reply.Refused cause.NoDesk)
+  no_session : desk < s.desks → session log desk ≡ None → IsRead s made log desk view limit (reply.Refused cause.NoSession)
+
+-- ---- the whole
+
+-- Each event has one reply, as asked or a refusal, and each version contents: version 0 the opening ones, and every version up to the current
+-- one those of a base. Left to a legal run is which job is drawn, how many rows a page puts, and when a Done, a PageIn or a Close is refused
 pub record ComesTrue (s : Setup) (events : List Event) (replies : List Reply) : Type 0 where
   pub made : ℕ → Contents
   pub each : length replies ≡ length events
-  pub own : (place : ℕ) (event : Event) (r : Reply) → IsAnswered events replies place event r → is_reply_to event r ≡ true
   pub opening : made 0 ≡ s.opening
   pub versions : (k : ℕ) → k ≤ nights_ended (log_after [] events replies) → AreContents (graph_of s.catalog) (bag_at (made k))
-  -- a night begins where none is open and one is left
-  pub begins : (place : ℕ) → IsAnswered events replies place Begin reply.Begun
-      → (is_open (done_before events replies place) ≡ false) × (nights_ended (done_before events replies place) < length s.nights)
-  -- and there it is not refused but for want of memory, the last number, or what it comes to
-  pub begun : (place : ℕ) (r : Reply) → IsAnswered events replies place Begin r → is_open (done_before events replies place) ≡ false
-      → nights_ended (done_before events replies place) < length s.nights → IsBegun (done_before events replies place) r
-  -- a commit makes the next version, of the open night's changes
-  pub commits : (place k : ℕ) → IsAnswered events replies place Commit (reply.Version k)
-      → (is_open (done_before events replies place) ≡ true) × (k ≡ nights_ended (done_before events replies place) + 1)
-      × CarriesOver s made (nights_ended (done_before events replies place))
-  -- an open night that is given up makes the next version too, which has the contents of the one before it
-  pub give_ups : (place k : ℕ) → IsAnswered events replies place GiveUp (reply.Version k)
-      → (is_open (done_before events replies place) ≡ true) × (k ≡ nights_ended (done_before events replies place) + 1)
-      × (made k ≡ made (nights_ended (done_before events replies place)))
-  -- and it can always be given up
-  pub given_up : (place : ℕ) (r : Reply) → IsAnswered events replies place GiveUp r → is_open (done_before events replies place) ≡ true
-      → r ≡ reply.Version (nights_ended (done_before events replies place) + 1)
-  -- a session is of the version that is current when it is opened, at a desk that has none
-  pub sessions : (place desk v : ℕ) → IsAnswered events replies place (Open desk) (reply.Session v) → IsNewSession s (done_before events replies place) desk v
-  -- each single page is of the session's version, whatever was made since
-  pub pages : (place desk view limit : ℕ) (page : Shown) → IsAnswered events replies place (Read desk view limit) (reply.Page page)
-      → IsNextPage s made (done_before events replies place) desk view limit page
-  -- no reader is refused a session, or waits for it
-  pub opened : (place desk : ℕ) (r : Reply) → IsAnswered events replies place (Open desk) r → desk < s.desks
-      → session (done_before events replies place) desk ≡ None → r ≡ reply.Session (nights_ended (done_before events replies place))
-  -- nor a page of a view that is there, of a version that can be read, but for want of memory for its rows
-  pub unexpired : (place desk view limit : ℕ) (of : SessionOf) (r : Reply) → IsAnswered events replies place (Read desk view limit) r → desk < s.desks
-      → session (done_before events replies place) desk ≡ Some of → IsReadable s (done_before events replies place) of.version
-      → view < length s.catalog.views.children → 1 ≤ limit → limit ≤ 256
-      → (r ≡ reply.Page (next_page made of view limit)) ⊎ (((next_page made of view limit).rows ≢ []) × IsMemory r)
+  pub begins : (place : ℕ) (r : Reply) → IsAnswered events replies place Begin r → IsBegun s made (done_before events replies place) r
+  pub takes : (place worker : ℕ) (r : Reply) → IsAnswered events replies place (Take worker) r → IsTaken s made (done_before events replies place) worker r
+  pub commits : (place : ℕ) (r : Reply) → IsAnswered events replies place Commit r → IsCommitted s made (done_before events replies place) r
+  pub give_ups : (place : ℕ) (r : Reply) → IsAnswered events replies place GiveUp r → IsGivenUp made (done_before events replies place) r
+  pub opens : (place desk : ℕ) (r : Reply) → IsAnswered events replies place (Open desk) r → IsOpened s (done_before events replies place) desk r
+  pub reads : (place desk view limit : ℕ) (r : Reply) → IsAnswered events replies place (Read desk view limit) r → IsRead s made (done_before events replies place) desk view limit r
+  pub dones : (place worker : ℕ) (r : Reply) → IsAnswered events replies place (Done worker) r → IsOrRefused reply.Done r
+  pub page_ins : (place : ℕ) (r : Reply) → IsAnswered events replies place PageIn r → (n : ℕ) × IsOrRefused (reply.Paged n) r
+  pub closes : (place desk : ℕ) (r : Reply) → IsAnswered events replies place (Close desk) r → IsOrRefused reply.Closed r
   -- the pages that a session has read of a view, up to a last page, are the view's whole table in the session's version
   pub whole : (place desk view : ℕ) (of : SessionOf) (page : Shown) (pages : List Shown) → session (done_before events replies place) desk ≡ Some of
       → pages_read (done_before events replies place) desk view ≡ page ∷ pages → page.last ≡ true

@@ -39,13 +39,17 @@ pub record IsGivenNight (catalog : CatalogOf) (given : GivenNight) : Type 0 wher
   pub changes : AreBags catalog given.changes
   pub list : IsCorrect catalog.views.children given.list
 
--- it fits together: the opening tables are contents of a base, each night is one of the catalogue, a page has 1 to 256 rows, and the
--- current version and the one before it are kept at least, and 4 versions at most
+-- it fits together: the opening tables are contents of a base, each night is one of the catalogue, there are 1 to 16 desks and 1 to 16
+-- workers, a page has 1 to 256 rows, and the current version and the one before it are kept at least, and 4 versions at most
 pub record IsSetup (s : Setup) : Type 0 where
   pub catalogue : IsCatalog s.catalog
   pub opening : AreContents (graph_of s.catalog) (bag_at s.opening)
   pub tables : AreBags s.catalog s.opening
   pub nights : (n : ℕ) (given : GivenNight) → slice_get s.nights n ≡ Some given → IsGivenNight s.catalog given
+  pub some_desks : 1 ≤ s.desks
+  pub few_desks : s.desks ≤ 16
+  pub some_workers : 1 ≤ s.workers
+  pub few_workers : s.workers ≤ 16
   pub some_keys : 1 ≤ s.keys
   pub few_keys : s.keys ≤ 256
   pub versions : 2 ≤ s.versions

@@ -2,6 +2,8 @@ pub mod Log
 pub mod Nights
 pub mod Replies
 pub mod Laws
+pub mod Later
+pub mod Beginning
 pub mod Headline
 pub mod Standing
 pub mod Inner

@@ -1,7 +1,7 @@
 -- What was done, the latest first: the accepted events, each with what it was answered. A refused event leaves nothing.
-use Rattle.std.specs.Prelude.{ℕ, ◌+◌, ◌-◌, ◌==◌, List, [], ◌∷◌, Option, Some, None, Bool, true, false, if◌then◌else◌, option_map, slice_get, length}
-use Rattle.wh_row.specs.Row.{Row}
+use Rattle.std.specs.Prelude.{ℕ, ◌+◌, ◌==◌, List, [], ◌∷◌, Option, Some, None, Bool, true, false, if◌then◌else◌, option_map}
 use Rattle.wh_store.specs.Pages.{Shown}
+use Rattle.wh_store.specs.Readers.{Bookmark, bookmark_after}
 use Rattle.wh_core.specs.declared.event.Event.{Event}
 use Rattle.wh_core.specs.declared.event.Event.TheVariants.{Begin, Take, Done, PageIn, Commit, GiveUp, Open, Read, Close}
 use Rattle.wh_core.specs.declared.reply.Reply.{Reply}
@@ -80,19 +80,10 @@ holding (Drew u n ∷ log) w = if u == w then Some n else holding log w
 holding (Finished u ∷ log) w = if u == w then None else holding log w
 holding (d ∷ log) w = holding log w
 
--- where a desk's next Read goes on: of which view it read last, and after which row
-pub record Bookmark : Type 0 where
-  pub view : ℕ
-  pub row : Row
-
 -- a desk's session: its version, and its bookmark, if it has one
 pub record SessionOf : Type 0 where
   pub version : ℕ
   pub bookmark : Option Bookmark
-
--- the bookmark that a page leaves: at its last row, where more follow
-abbrev pub bookmark_after : ℕ → Shown → Option Bookmark
-bookmark_after view page = if page.last then None else option_map (λ e. record { view = view; row = e.0 }) (slice_get page.rows (length page.rows - 1))
 
 -- the session of a desk
 abbrev pub session : Log → ℕ → Option SessionOf

@@ -30,14 +30,19 @@ pub record Setup : Type 0 where
 
 -- a warehouse of so many desks and workers over these contents
 abbrev pub setup_of : CatalogOf → MachineOptions → Contents → List GivenNight → Setup
-setup_of catalog options opening nights = record {
-  catalog = catalog;
-  desks = options.desks;
-  workers = options.workers;
-  versions = options.versions;
-  keys = options.page_keys;
-  opening = opening;
-  nights = nights;
+setup_of catalog options opening nights =
+    record { catalog = catalog; desks = options.desks; workers = options.workers; versions = options.versions; keys = options.page_keys; opening = opening; nights = nights }
+
+-- the same, with these nights behind those that were given
+abbrev pub with_nights : Setup → List GivenNight → Setup
+with_nights s later = record {
+  catalog = s.catalog;
+  desks = s.desks;
+  workers = s.workers;
+  versions = s.versions;
+  keys = s.keys;
+  opening = s.opening;
+  nights = s.nights ++ later;
 }
 
 -- the given night of this number, from these contents

@@ -1,12 +1,12 @@
 -- The reply to an event, looked up in what was done before and in the list published so far; and legal runs.
-use Rattle.std.specs.Prelude.{◌≡◌, ◌≢◌, ◌⊎◌, ℕ, ◌+◌, ◌^◌, ◌==◌, List, [], ◌∷◌, length, Option, Some, None, is_some, is_none, Bool, true, false, not, ◌||◌, nat_le, nat_lt, if◌then◌else◌}
+use Rattle.std.specs.Prelude.{◌≡◌, ◌≢◌, ◌⊎◌, ℕ, ◌+◌, ◌^◌, ◌==◌, List, [], ◌∷◌, length, Option, Some, None, is_some, is_none, Bool, true, false, not, nat_le, if◌then◌else◌}
 use Rattle.wh_dag.specs.Catalog.{CatalogOf}
-use Rattle.wh_row.specs.Row.{Row}
 use Rattle.wh_maint.specs.declared.fault.MaintFault.{MaintFault}
 use Rattle.wh_maint.specs.declared.fault.MaintFault.TheVariants as fault
 use Rattle.wh_carry.specs.Refused.{IsBaseFault}
-use Rattle.wh_store.specs.Pages.{Contents, Shown, page_of}
-use Rattle.wh_store.specs.Versions.{Versions, number, is_active, is_unexpired, version, table_of}
+use Rattle.wh_store.specs.Pages.{Shown}
+use Rattle.wh_store.specs.Readers.{Is_expired, No_such_limit, No_such_view, Unread, goes_on, read_by}
+use Rattle.wh_store.specs.Versions.{Versions, number, is_active, version}
 use Rattle.wh_carry.specs.Night.{Night, ArePassedAt, IsFirstFaultOf, places_from, AreAllowed}
 use Rattle.wh_carry.specs.Legs.{Turn, In_wave, At_page, Over, after_done, after_page, carried_up_to, is_last, legs_of, turn_of, untouched}
 use Rattle.wh_core.specs.declared.event.Event.{Event}
@@ -15,7 +15,7 @@ use Rattle.wh_core.specs.declared.reply.Cause.{Cause}
 use Rattle.wh_core.specs.declared.reply.Cause.TheVariants as cause
 use Rattle.wh_core.specs.declared.reply.Reply.{Reply}
 use Rattle.wh_core.specs.declared.reply.Reply.TheVariants as reply
-use Rattle.wh_core.specs.Log.{Bookmark, Log, SessionOf, holding, is_open, logged, nights_begun, session}
+use Rattle.wh_core.specs.Log.{Log, SessionOf, holding, is_open, logged, nights_begun, session}
 use Rattle.wh_core.specs.Nights.{Setup, next_night, night, remaining, turn, versions}
 
 -- How an event is answered: by this reply and no other; by this page, unless memory is refused for its rows; or the event carries out the
@@ -34,18 +34,16 @@ unless refused why ruling = if refused then Says (reply.Refused why) else ruling
 
 -- ---- readers
 
--- the row after which a Read of the view goes on
-abbrev pub goes_on : ℕ → Option Bookmark → Option Row
-goes_on view None = None
-goes_on view (Some mark) = if mark.view == view then Some mark.row else None
+-- the cause by which a read is refused for this reason
+abbrev pub unread_cause : Unread → Cause
+unread_cause (Is_expired of current active) = cause.Expired of current active
+unread_cause No_such_view = cause.NoView
+unread_cause No_such_limit = cause.Limit
 
+-- a read in this session, if there is one
 abbrev pub read_ruling : ℕ → Versions → ℕ → ℕ → Option SessionOf → Ruling
 read_ruling kept v view limit None = Says (reply.Refused cause.NoSession)
-read_ruling kept v view limit (Some s) =
-    unless (not (is_unexpired kept v s.version)) (cause.Expired s.version (number v) (is_active v))
-    (unless (nat_le (length (version v s.version)) view) cause.NoView
-    (unless ((limit == 0) || nat_lt 256 limit) cause.Limit
-    (Takes (page_of (table_of v s.version view) (goes_on view s.bookmark) limit))))
+read_ruling kept v view limit (Some s) = read_by (λ why. Says (reply.Refused (unread_cause why))) Takes kept (number v) (is_active v) (version v s.version) s.version view (goes_on view s.bookmark) limit
 
 -- ---- workers
 

@@ -5,6 +5,7 @@ use Rattle.wh_strategy.specs.Rules.{Judged}
 use Rattle.wh_row.specs.Bag.{Bag}
 use Rattle.wh_maint.specs.declared.fault.MaintFault.{MaintFault}
 use Rattle.wh_store.specs.Windows.{Shows}
+use Rattle.wh_store.specs.Readers.{Bookmark}
 use Rattle.wh_carry.specs.declared.course.Part.{Part}
 use Rattle.wh_carry.specs.Night.{Night}
 use Rattle.wh_carry.specs.Legs.{Leg, Wave, Page, Remaining}
@@ -13,11 +14,11 @@ use Rattle.wh_core.specs.declared.session.Mark.{Mark}
 use Rattle.wh_core.specs.declared.session.Seat.{Seat}
 use Rattle.wh_core.specs.declared.machine.Machine.{Machine}
 use Rattle.wh_core.specs.declared.warehouse.Core.{Core}
-use Rattle.wh_core.specs.Log.{Bookmark, Log, SessionOf, holding, is_open, nights_begun, session}
+use Rattle.wh_core.specs.Log.{Log, SessionOf, holding, is_open, nights_begun, session}
 use Rattle.wh_core.specs.Nights.{GivenNight, Setup, night, published, remaining, versions}
 use Rattle.wh_core.specs.Replies.{IsLegalLog}
 use Rattle.std.specs.declared.alloc.Global.{Global}
-use Rattle.wh_core.specs.Laws.{IsSetup}
+use Rattle.wh_core.specs.Laws.{IsGivenNight, IsSetup}
 
 abbrev pub bookmark_of : Mark → Bookmark
 bookmark_of m = record { view = m.view; row = m.row.items }
@@ -75,6 +76,15 @@ nights_of nights = map given_of nights
 -- the strategies were judged over the catalogue's shape
 abbrev pub AreJudged : CatalogOf → List (Vec Bag Global × Judged) → Type 0
 AreJudged catalog nights = (n : ℕ) (given : Vec Bag Global × Judged) → slice_get nights n ≡ Some given → given.1.children ≡ catalog.views.children
+
+-- the catalogue of a machine
+abbrev pub catalog_of : {F G : Type 0} → Core F G → CatalogOf
+catalog_of core = core.catalog
+
+-- this night is one of the machine's catalogue, and its strategy was judged over the catalogue's shape
+pub record IsNightFor {F G : Type 0} (core : Core F G) (night : Vec Bag Global × Judged) : Type 0 where
+  pub given : IsGivenNight (catalog_of core) (given_of night)
+  pub judged : night.1.children ≡ (catalog_of core).views.children
 
 -- so it is of a machine with its catalogue and nights
 pub record StandsWith {F G : Type 0} (s : Setup) (log : Log) (core : Core F G) : Type 0 where

@@ -1,6 +1,6 @@
-//! What can happen to a warehouse.
+//! Names what can happen to a warehouse.
 
-/// One event. Workers, desks and views are numbered from 0.
+/// The events of a warehouse. Workers, desks and views are numbered from 0.
 #[derive(Clone, Copy, Debug)]
 pub enum Event {
     /// The next night begins.

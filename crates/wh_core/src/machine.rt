@@ -1,4 +1,4 @@
-//! What a machine keeps beside its catalogue, and the events that need no more.
+//! Keeps what a machine has beside its catalogue, and answers the events that need no more.
 
 ghost use Rattle.std.specs.Prelude.{◌≡◌, ◌≢◌, ◌⊎◌, ◌<◌, ◌≤◌, ◌==◌, ◌||◌, not, nat_lt, ◌+◌, ◌^◌, ℕ, length, false, drop, replicate, slice_get, List, [], ◌∷◌, ◌++◌, None, Some, IfOk, OnErr, OnOk, MatchOption};
 ghost use Rattle.wh_row.specs.Weigh.{Counted};
@@ -127,7 +127,7 @@ fn hindrance(course: &Course, place: usize) -> Option<&MaintFault>
 }
 
 impl Machine {
-    /// Over these tables, as version 0. Sessions of the last so many versions can be read.
+    /// Makes a machine over these tables, as version 0. Sessions of the last so many versions can be read.
     pub(crate) fn new(
         alloc: Global,
         tables: Vec<Bag>,
@@ -315,7 +315,7 @@ impl Machine {
         Reply::Paged(rows)
     }
 
-    /// The tables that the night ends with become those of the current version.
+    /// Makes the tables that the night ends with those of the current version.
     pub(crate) fn commit(&mut self) -> Reply
         ensures { (s : Setup) (log : Log) → IsSetup s → Stands s log self.old → Stands s (logged log Event.Commit result) self.new × IsReply s log Event.Commit result }
     {
@@ -333,8 +333,8 @@ impl Machine {
         Reply::Version(self.store.number())
     }
 
-    /// The tables that the night would end with are forgotten. Those of before are gone: keeping them, or what takes them back,
-    /// would cost every night memory, and a night is seldom given up.
+    /// Forgets the tables that the night would end with. Those of before are gone: keeping them, or what takes them back, would cost every
+    /// night memory, and a night is seldom given up.
     pub(crate) fn give_up(&mut self) -> Reply
         ensures { (s : Setup) (log : Log) → Stands s log self.old → Stands s (logged log Event.GiveUp result) self.new × IsReply s log Event.GiveUp result }
     {

@@ -1,4 +1,4 @@
-//! What an event is answered.
+//! Names what an event is answered.
 
 ghost use Rattle.std.specs.Prelude.{◌≡◌};
 ghost use Rattle.wh_core.specs.Replies.{cause_of};
@@ -21,7 +21,7 @@ pub enum Reply {
     Version(u64),
     /// The session is of this version.
     Session(u64),
-    /// What the desk read.
+    /// The rows that the desk read, as a page.
     Page(Rows),
     /// The session is closed.
     Closed,
@@ -29,37 +29,37 @@ pub enum Reply {
     Refused(Cause),
 }
 
-/// Why an event was refused.
+/// The reasons for which an event is refused.
 #[derive(Clone, Copy, Debug, PartialEq, Eq)]
 pub enum Cause {
     /// The desk has no session.
     NoSession,
-    /// The desk has one.
+    /// The desk has a session already.
     SessionOpen,
     /// The session's version, the first of these numbers, can be read no more; the second is the current one, and the flag
     /// says whether a night is open.
     Expired(u64, u64, bool),
-    /// There is no such view.
+    /// There is no view of this number.
     NoView,
     /// Memory was refused.
     Memory,
-    /// There is no such desk.
+    /// There is no desk of this number.
     NoDesk,
-    /// There is no such worker.
+    /// There is no worker of this number.
     NoWorker,
-    /// A page has 1 to 256 rows.
+    /// The page is not of 1 to 256 rows.
     Limit,
     /// A night is open.
     NightOpen,
-    /// No night is open; for a Begin, none is left.
+    /// No night is open; for a Begin, no night is left.
     NoNight,
     /// No page, or no commit, is in turn.
     NotReady,
     /// There is no job to draw.
     NoJob,
-    /// The worker has a job.
+    /// The worker has a job already.
     Busy,
-    /// The worker has none.
+    /// The worker has no job.
     Idle,
     /// A number of rows leaves its range.
     Large,
@@ -71,7 +71,7 @@ pub enum Cause {
     LastVersion,
 }
 
-/// The cause that a fault of carrying out is answered by.
+/// Returns the cause that a fault of carrying out is answered by.
 pub(crate) fn cause_of(fault: &MaintFault) -> Cause
     ensures { result ≡ cause_of fault.now }
 {

@@ -1,8 +1,7 @@
-//! The session of a desk.
+//! Keeps the session of a desk.
 
 ghost use Rattle.std.specs.Prelude.{◌≡◌, ◌≢◌, [], option_map, IfOk, OnErr};
-ghost use Rattle.wh_core.specs.Log.{bookmark_after};
-ghost use Rattle.wh_core.specs.Replies.{goes_on};
+ghost use Rattle.wh_store.specs.Readers.{bookmark_after, goes_on};
 ghost use Rattle.wh_core.specs.Standing.{bookmark_of};
 
 use std::alloc::{AllocError, Global};
@@ -23,7 +22,7 @@ pub(crate) struct Seat {
     pub(crate) mark: Option<Mark>,
 }
 
-/// The row after which a read of the view goes on.
+/// Returns the row after which a read of the view goes on.
 pub(crate) fn goes_on(view: usize, mark: &Option<Mark>) -> Option<&[i64]>
     ensures { option_map (λ row. row.now) result ≡ goes_on view (option_map bookmark_of mark.now) }
 {
@@ -33,7 +32,7 @@ pub(crate) fn goes_on(view: usize, mark: &Option<Mark>) -> Option<&[i64]>
     }
 }
 
-/// The mark that a page of the view leaves. Memory is wanted for its last row alone.
+/// Returns the mark that a page of the view leaves. Memory is wanted for its last row alone.
 pub(crate) fn mark_after(
     alloc: Global,
     view: usize,

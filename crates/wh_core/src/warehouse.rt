@@ -1,14 +1,15 @@
-//! The machine over events.
+//! Answers events, as the machine over a catalogue's views.
 
-ghost use Rattle.std.specs.Prelude.{◌≡◌, ◌≢◌, ◌≤◌, length, slice_get, Some, [], List, IfOk, OnErr};
+ghost use Rattle.std.specs.Prelude.{◌≡◌, ◌≢◌, ◌≤◌, length, slice_get, Some, [], ◌∷◌, List, IfOk, OnErr, OnOk};
 ghost use Rattle.wh_dag.specs.Catalog.{IsCatalog};
 ghost use Rattle.wh_maint.specs.Asked.{AreBags};
 ghost use Rattle.wh_core.specs.Headline.{ComesTrue};
 ghost use Rattle.wh_core.specs.Laws.{IsSetup, log_after};
-ghost use Rattle.wh_core.specs.Log.{Log, logged};
-ghost use Rattle.wh_core.specs.Nights.{Setup, setup_of};
-ghost use Rattle.wh_core.specs.Replies.{IsLegalRun, IsReply};
-ghost use Rattle.wh_core.specs.Standing.{AreJudged, IsFresh, IsStanding, StandsWith, nights_of};
+ghost use Rattle.wh_core.specs.Beginning.{IsBeginOf};
+ghost use Rattle.wh_core.specs.Log.{Log, Began, logged};
+ghost use Rattle.wh_core.specs.Nights.{GivenNight, Setup, setup_of, with_nights};
+ghost use Rattle.wh_core.specs.Replies.{IsLegalLog, IsLegalRun, IsReply};
+ghost use Rattle.wh_core.specs.Standing.{AreJudged, IsFresh, IsNightFor, IsStanding, StandsWith, catalog_of, given_of, nights_of};
 
 use crate::event::Event;
 use crate::laws::{runs_come_true, versions_are_contents};
@@ -22,7 +23,7 @@ use wh_formula::{RowTest, RowValue};
 use wh_row::Bag;
 use wh_strategy::Correct;
 
-/// A warehouse, the nights that it is to go through, its desks and its workers.
+/// A warehouse, with the nights that it is to go through, its desks and its workers.
 #[derive(Drop)]
 pub struct Core<F: RowTest, G: RowValue> {
     alloc: Global,
@@ -33,9 +34,10 @@ pub struct Core<F: RowTest, G: RowValue> {
 }
 
 impl<F: RowTest + Drop, G: RowValue + Drop> Core<F, G> {
-    /// A machine that has done nothing yet, over these tables: the contents of a base, as `opening_contents` gives them, and from
-    /// such contents `carry` and a published night. That tables are fit (`are_fit`) does not suffice. A night is the changes of the
-    /// base views and a strategy that was judged over this catalogue's shape.
+    /// Makes a machine that has done nothing yet, over these tables: the contents of a base, as `opening_contents` gives them, and from
+    /// such contents `carry` and a published night. That tables are fit (`are_fit`) does not suffice. A night is the changes of the base
+    /// views and a strategy that was judged over this catalogue's shape.
+    /// Fails for want of memory.
     pub fn new(
         alloc: Global,
         catalog: Catalog<F, G>,
@@ -64,7 +66,59 @@ impl<F: RowTest + Drop, G: RowValue + Drop> Core<F, G> {
         })
     }
 
-    /// Answers an event.
+    /// Lends the catalogue, over whose shape the strategy of a night that is added has to be judged.
+    pub fn catalog(&self) -> &Catalog<F, G>
+        ensures { result.now ≡ catalog_of self.now }
+    {
+        &self.catalog
+    }
+
+    /// Adds a night behind those that the machine is to go through, also while one is open. The machine goes on as if it had had this night
+    /// from the start, and a Begin finds it once the nights before it have ended.
+    /// Fails for want of memory, and then leaves the machine as it was, without the night.
+    pub fn add_night(&mut self, night: (Vec<Bag>, Correct)) -> Result<(), AllocError>
+        requires standing { IsStanding self.old }
+        requires night { IsNightFor self.old night }
+        ensures stands { IsStanding self.new }
+        ensures added { OnOk result ((s : Setup) (log : Log) → IsSetup s → StandsWith s log self.old → IsSetup (with_nights s (given_of night ∷ [])) × StandsWith (with_nights s (given_of night ∷ [])) log self.new) }
+        ensures memory { OnErr result ((s : Setup) (log : Log) → StandsWith s log self.old → StandsWith s log self.new) }
+    {
+        self.nights.push(night)?;
+        Ok(())
+    }
+
+    /// Adds a night behind the others and begins the one that is next: this one, where all others have begun. A night that is
+    /// refused, for whatever cause, is not added, and leaves the machine as it was.
+    pub fn begin_night(&mut self, night: (Vec<Bag>, Correct)) -> Reply
+        requires standing { IsStanding self.old }
+        requires night { IsNightFor self.old night }
+        ensures stands { IsStanding self.new }
+        ensures reply { (s : Setup) (log : Log) → IsSetup s → StandsWith s log self.old → IsBeginOf s log (given_of night) result }
+        ensures begun { result ≡ Reply.Begun → (s : Setup) (log : Log) → IsSetup s → StandsWith s log self.old
+            → IsSetup (with_nights s (given_of night ∷ [])) × StandsWith (with_nights s (given_of night ∷ [])) (Began ∷ log) self.new }
+        ensures refused { result ≢ Reply.Begun → (s : Setup) (log : Log) → IsSetup s → StandsWith s log self.old → StandsWith s log self.new }
+    {
+        let given = self.nights.len();
+        let Ok(()) = self.nights.push(night) else {
+            return Reply::Refused(Cause::Memory);
+        };
+        match self.begin() {
+            Reply::Begun => Reply::Begun,
+            refusal => {
+                self.take_back(given);
+                refusal
+            }
+        }
+    }
+
+    /// Keeps this many nights, where none behind them has begun.
+    fn take_back(&mut self, given: usize)
+        ensures { (s : Setup) (log : Log) (later : List GivenNight) → IsLegalLog s log → given ≡ length s.nights → StandsWith (with_nights s later) log self.old → StandsWith s log self.new }
+    {
+        self.nights.truncate(given);
+    }
+
+    /// Answers an event. An event that is refused, also for want of memory, changes nothing.
     pub fn step(&mut self, event: Event) -> Reply
         requires { IsStanding self.old }
         ensures stands { IsStanding self.new }
@@ -127,7 +181,8 @@ impl<F: RowTest + Drop, G: RowValue + Drop> Core<F, G> {
         self.machine.start(course, last)
     }
 
-    /// Answers events, one after another, from a machine that has done nothing yet. Memory comes before the first, where there is one.
+    /// Answers events, one after another, from a machine that has done nothing yet.
+    /// Fails for want of memory, before the first event, and only where there is one. Then nothing is changed.
     pub fn run(&mut self, events: &[Event]) -> Result<Vec<Reply>, AllocError>
         requires { IsFresh self.old }
         ensures replies { IfOk result (λ replies. (s : Setup) → IsSetup s → StandsWith s [] self.old → IsLegalRun s events.now replies.items × StandsWith s (log_after [] events.now replies.items) self.new) }

@@ -6,18 +6,18 @@ use Rattle.wh_formula.specs.Pred.{PredTree}
 use Rattle.wh_formula.specs.Pred as pred
 use Rattle.wh_dag.specs.Shape.{Views, IsShape, children_of}
 
--- the columns of a derived view: a joined view keeps an expression's value in each; a summary has the cells at these
--- places, by which it groups, then the count of the group, then the sums of these expressions
+-- The columns of a derived view. A joined view keeps an expression's value in each. A summary has the cells at these places, by which it
+-- groups, then the count of the group, then the sums of these expressions.
 pub data OutputOf : Type 0 where
   Keep : List ExprTree → OutputOf
   Sums : List ℕ → List ExprTree → OutputOf
 
--- how many columns these are
+-- how many columns an output has
 abbrev pub columns : OutputOf → ℕ
 columns (Keep kept) = length kept
 columns (Sums group sums) = length group + 1 + length sums
 
--- how many sums these have: a joined view has none
+-- how many sums an output has: that of a joined view has none
 abbrev pub sums_in : OutputOf → ℕ
 sums_in (Keep kept) = 0
 sums_in (Sums group sums) = length sums
@@ -73,8 +73,8 @@ is_empty (x ∷ xs) = false
 abbrev pub is_base : CatalogOf → ℕ → Bool
 is_base catalog view = is_empty (children_of catalog.views.children view)
 
--- each view has 1 to 64 columns, and exactly the derived ones have a definition, over their combined rows, of so many
--- columns, each of whose places lies in these rows
+-- Each view has 1 to 64 columns. Exactly the derived ones have a definition, over their combined rows, of so many columns, each of whose
+-- places lies in these rows.
 pub record IsCatalog (catalog : CatalogOf) : Type 0 where
   pub shape : IsShape catalog.views.children
   pub each_width : length catalog.widths ≡ length catalog.views.children

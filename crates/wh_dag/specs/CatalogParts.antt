@@ -9,7 +9,7 @@ bases_among [] = 0
 bases_among ([] ∷ shape) = suc (bases_among shape)
 bases_among ((u ∷ us) ∷ shape) = bases_among shape
 
--- how many of them are derived
+-- how many views of these child lists are derived
 abbrev pub derived_among : List (List ℕ) → ℕ
 derived_among [] = 0
 derived_among ([] ∷ shape) = derived_among shape
@@ -35,8 +35,7 @@ catalog_of views widths definitions =
     let dealt : List (Option DefinitionOf) = dealt_definitions views.children definitions in
     record { views = views; widths = dealt_widths dealt widths; definitions = dealt }
 
--- these parts make a catalogue: there are as many widths as base views and as many definitions as derived views, and
--- what they make is one
+-- these parts make a catalogue: there are as many widths as base views and as many definitions as derived views, and what they make is one
 pub record FitTogether (views : Views) (widths : List ℕ) (definitions : List DefinitionOf) : Type 0 where
   pub each_width : length widths ≡ bases_among views.children
   pub each_definition : length definitions ≡ derived_among views.children

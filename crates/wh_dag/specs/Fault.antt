@@ -50,7 +50,7 @@ fault_from names view (own ∷ rest) = or_else (view_fault names view own) (faul
 abbrev pub first_fault : List (List ℕ) → List (Option (List (List ℕ))) → Option ShapeFault
 first_fault names over = fault_from names 0 over
 
--- each kind of refusal has its number, from 1
+-- the number of a refusal, by its kind, from 1
 abbrev pub fault_number : ShapeFault → ℕ
 fault_number (Duplicate view name) = 1
 fault_number (Unknown view child) = 2

@@ -11,9 +11,9 @@ pub record IsListed (over : List (Option (List (List ℕ)))) (view place : ℕ) 
   pub own : slice_get over view ≡ Some (Some children)
   pub there : slice_get children place ≡ Some child
 
--- This is wrong with the view at this step, whatever else is wrong with it. Step 0 asks whether there are too many views, step 1 whether
--- its name is new, step 2 whether its list has 1 to 6 members, and step 3 + place whether the child at that place is a view of a lower
--- number that does not stand earlier in the list.
+-- This is wrong with the view at this step, whatever else is wrong with it. Step 0 asks whether there are too many views. Step 1 asks
+-- whether its name is new, and step 2 whether its list has 1 to 6 members. Step 3 + place asks whether the child at that place is a view of
+-- a lower number that does not stand earlier in the list.
 pub data IsWrong (names : List (List ℕ)) (over : List (Option (List (List ℕ)))) (view step : ℕ) (fault : ShapeFault) : Type 0 where
   view_too_many : step ≡ 0 → view < length over → 64 ≤ view → fault ≡ TooMany view (name_of names view) → IsWrong names over view step fault
   duplicate : (earlier : ℕ) → step ≡ 1 → view < length over → earlier < view → name_of names earlier ≡ name_of names view → fault ≡ Duplicate view (name_of names view) → IsWrong names over view step fault

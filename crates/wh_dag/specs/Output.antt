@@ -17,7 +17,7 @@ abbrev pub output_of : {G : Type 0} → Output G → OutputOf
 output_of (Keep kept) = shown.Keep (exprs_of kept.items)
 output_of (Sums group sums) = shown.Sums group.items (exprs_of sums.items)
 
--- its combiners
+-- the combiners of an output
 abbrev pub combiners_of : {G : Type 0} → Output G → List CombinerOf
 combiners_of (Keep kept) = kept.items
 combiners_of (Sums group sums) = sums.items

@@ -30,7 +30,7 @@ triples_below n = each_below (λ parent. triples_of parent n) n
 unfoldable pub sibling_pairs_of : List (List ℕ) → List SiblingPair
 sibling_pairs_of shape = filter (is_sibling_pair shape) (triples_below (length shape))
 
--- a view is over both
+-- a view is over both of these
 unfoldable pub have_parent : List (List ℕ) → ℕ → ℕ → Bool
 have_parent shape u w = list_any (λ own. has own u && has own w) shape
 

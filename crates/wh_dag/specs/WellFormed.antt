@@ -3,8 +3,8 @@ use Rattle.std.specs.Prelude.{◌≡◌, ◌≢◌, ℕ, ◌<◌, ◌≤◌, Lis
 use Rattle.wh_dag.specs.Fault.{first_fault}
 use Rattle.wh_dag.specs.Written.{number_of}
 
--- at most 64 views of distinct names, and each written list has 1 to 6 members, none of them twice, each the name of a
--- view; the first view of that name has a lower number than the view whose list it is
+-- There are at most 64 views of distinct names. Each written list has 1 to 6 members, none of them twice, each the name of a view. The
+-- first view of that name has a lower number than the view whose list it is.
 pub record IsWellFormed (names : List (List ℕ)) (over : List (Option (List (List ℕ)))) : Type 0 where
   pub few_views : length over ≤ 64
   pub names_distinct : AllPairs (λ first second. first ≢ second) names

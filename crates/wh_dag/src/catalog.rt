@@ -1,4 +1,4 @@
-// The views of a warehouse with their definitions.
+//! Catalogues: the views of a warehouse with their definitions, by which all changes of views are computed.
 ghost use Rattle.std.specs.Prelude.{◌≡◌, ◌<◌, ◌≤◌, ◌↔◌, length, IfOk, OnErr, IsTrue, MatchOption, Some, None, false};
 ghost use Rattle.wh_dag.specs.Catalog.{IsCatalog, width_of, combined_width, definition_of, is_base, columns};
 ghost use Rattle.wh_dag.specs.CatalogParts.{FitTogether, Shows, catalog_of};
@@ -33,9 +33,8 @@ impl<F: RowTest, G: RowValue> Model for Catalog<F, G> {
 }
 
 impl<F: RowTest + Drop, G: RowValue + Drop> Catalog<F, G> {
-    /// The catalogue of these views, with the width of each base view and the definition of each
-    /// derived view, both rising. No view has more than 64 columns, each has one, and each
-    /// definition is over rows of its view's combined width (`fits` tests it).
+    /// Makes the catalogue of these views, with the width of each base view and the definition of each derived view, both rising. The parts
+    /// have to fit together, which [`Catalog::fits`] tests. Fails for want of memory alone.
     pub fn new(
         alloc: Global,
         shape: Shape,
@@ -60,16 +59,15 @@ impl<F: RowTest + Drop, G: RowValue + Drop> Catalog<F, G> {
 }
 
 impl<F: RowTest, G: RowValue> Catalog<F, G> {
-    /// Whether these parts make a catalogue: a width for each base view and a definition for each
-    /// derived one, no view without a column or with more than 64, and each definition over rows
-    /// of its view's combined width.
+    /// Returns whether these parts make a catalogue. There has to be a width for each base view and a definition for each derived one. Each
+    /// view needs 1 to 64 columns, and each definition has to be over rows of its view's combined width.
     pub fn fits(shape: &Shape, widths: &[usize], definitions: &[Definition<F, G>]) -> bool
         ensures { IsTrue result ↔ FitTogether shape.now widths.now definitions.now }
     {
         fitting::fits(shape, widths, definitions)
     }
 
-    /// The views by name, with those that each is over.
+    /// Returns the views by name, with those that each is over.
     pub fn shape(&self) -> &Shape
         ensures views { result.now ≡ self.now.views }
         ensures catalog { IsCatalog self.now }
@@ -77,7 +75,7 @@ impl<F: RowTest, G: RowValue> Catalog<F, G> {
         &self.shape
     }
 
-    /// Whether the view is over no view.
+    /// Returns whether the view is over no view.
     pub fn is_base(&self, view: usize) -> bool
         requires { view < length self.now.views.children }
         ensures { result ≡ is_base self.now view }
@@ -85,7 +83,7 @@ impl<F: RowTest, G: RowValue> Catalog<F, G> {
         self.shape.children(view).is_empty()
     }
 
-    /// How many columns the view has.
+    /// Returns how many columns the view has.
     pub fn width(&self, view: usize) -> usize
         requires { view < length self.now.views.children }
         ensures width { result ≡ width_of self.now view }
@@ -95,8 +93,7 @@ impl<F: RowTest, G: RowValue> Catalog<F, G> {
         self.widths[view]
     }
 
-    /// How many cells the view's combined rows have: the widths of its children together, 0 for a
-    /// base view.
+    /// Returns how many cells the view's combined rows have: the widths of its children together, 0 for a base view.
     pub fn combined_width(&self, view: usize) -> usize
         requires { view < length self.now.views.children }
         ensures { result ≡ combined_width self.now view }
@@ -107,7 +104,7 @@ impl<F: RowTest, G: RowValue> Catalog<F, G> {
         }
     }
 
-    /// How the view is defined, if it is derived.
+    /// Returns how the view is defined; none for a base view.
     pub fn definition(&self, view: usize) -> Option<&Definition<F, G>>
         requires { view < length self.now.views.children }
         ensures definition { MatchOption result (definition_of self.now view ≡ None)
@@ -117,7 +114,7 @@ impl<F: RowTest, G: RowValue> Catalog<F, G> {
         self.definitions[view].as_ref()
     }
 
-    /// How a derived view is defined.
+    /// Returns how a derived view is defined.
     pub fn derived(&self, view: usize) -> &Definition<F, G>
         requires view { view < length self.now.views.children }
         requires derived { is_base self.now view ≡ false }

@@ -1,4 +1,4 @@
-// Which views each view is over.
+//! Which views each view is over: what planning knows of a warehouse, without names and definitions.
 ghost use Rattle.std.specs.Prelude.{◌≡◌, ◌<◌, ◌↔◌, ◌==◌, List, ℕ, length, IfOk, OnErr, IsTrue};
 ghost use Rattle.wh_dag.specs.Shape.{IsShape, has, children_of};
 ghost use Rattle.wh_dag.specs.Siblings.{have_parent};
@@ -31,7 +31,7 @@ impl ChildLists {
         ChildLists { lists }
     }
 
-    /// How many views the shape has.
+    /// Returns how many views the shape has.
     pub fn len(&self) -> usize
         ensures len { result ≡ length self.now }
         ensures shape { IsShape self.now }
@@ -39,14 +39,14 @@ impl ChildLists {
         self.lists.len()
     }
 
-    /// Whether the shape has no view.
+    /// Returns whether the shape has no view.
     pub fn is_empty(&self) -> bool
         ensures { result ≡ (length self.now == 0) }
     {
         self.lists.is_empty()
     }
 
-    /// The views that this one is over, in the order written.
+    /// Returns the views that this one is over, in the order written.
     #[tactic(auto, unfolding(crate::specs::Shape::children_of))]
     pub fn of(&self, view: usize) -> &[usize]
         requires { view < length self.now }
@@ -56,8 +56,7 @@ impl ChildLists {
         &self.lists[view]
     }
 
-    /// Whether this view is over that one; a number that is no view's is over none. Takes O(C) for C
-    /// children of the view.
+    /// Returns whether this view is over that one; a number that is no view's is over none. Takes O(C) for C children of the view.
     #[tactic(auto, unfolding(crate::specs::Shape::children_of, crate::specs::Shape::has))]
     pub fn is_over(&self, view: usize, child: usize) -> bool
         ensures { result ≡ has (children_of self.now view) child }
@@ -65,14 +64,14 @@ impl ChildLists {
         view < self.len() && has_view(self.of(view), child)
     }
 
-    /// Whether a view is over both of these. Takes O(V C) for V views of at most C children each.
+    /// Returns whether a view is over both of these. Takes O(V C) for V views of at most C children each.
     pub fn have_parent(&self, first: usize, second: usize) -> bool
         ensures { result ≡ have_parent self.now first second }
     {
         any_over_both(&self.lists, first, second)
     }
 
-    /// A copy of the lists. Takes no memory where there is no view.
+    /// Makes a copy of the lists. Takes no memory where there is no view. Takes O(V C) for V views of at most C children each.
     pub fn copy(&self, alloc: Global) -> Result<ChildLists, AllocError>
         ensures copy { IfOk result (λ copy. copy ≡ self.now) }
         ensures memory { OnErr result (0 < length self.now) }
@@ -81,7 +80,8 @@ impl ChildLists {
         Ok(ChildLists { lists })
     }
 
-    /// Whether these are the lists of the same shape: each view over the same views in the same order.
+    /// Returns whether these are the lists of the same shape: each view over the same views in the same order. Takes O(V C) for V views of
+    /// at most C children each.
     pub fn is_same(&self, other: &ChildLists) -> bool
         ensures { IsTrue result ↔ (self.now ≡ other.now) }
     {

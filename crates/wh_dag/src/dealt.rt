@@ -1,4 +1,4 @@
-// The parts of a catalogue, dealt out to the views in rising order.
+//! Deals the parts of a catalogue out to the views in rising order, since they are given as two lists.
 ghost use Rattle.std.specs.Prelude.{◌≡◌, ◌<◌, length, IfOk, OnErr};
 ghost use Rattle.wh_dag.specs.CatalogParts.{dealt_definitions, dealt_widths};
 
@@ -7,7 +7,7 @@ use crate::definition::Definition;
 use std::alloc::{AllocError, Global};
 use wh_formula::{RowTest, RowValue};
 
-/// For each view its definition: each derived view has the next of those given.
+/// Returns for each view its definition: each derived view has the next of those given, and a base view none.
 pub(crate) fn definitions<F: RowTest + Drop, G: RowValue + Drop>(
     alloc: Global,
     shape: &ChildLists,
@@ -29,8 +29,7 @@ pub(crate) fn definitions<F: RowTest + Drop, G: RowValue + Drop>(
     Ok(dealt)
 }
 
-/// For each view its number of columns: what its definition says, and where it has none the next
-/// of those given.
+/// Returns for each view its number of columns: what its definition says, and where it has none the next of those given.
 pub(crate) fn widths<F: RowTest, G: RowValue>(
     alloc: Global,
     definitions: &[Option<Definition<F, G>>],

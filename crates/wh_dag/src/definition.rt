@@ -1,4 +1,4 @@
-// How a derived view is made of combined rows.
+//! How a derived view is made of combined rows.
 ghost use Rattle.std.specs.Prelude.{◌≡◌, ◌<◌, ◌↔◌, ◌&&◌, IsTrue, All, nat_lt};
 ghost use Rattle.std.specs.List.{list_all};
 ghost use Rattle.wh_dag.specs.Catalog.{columns, IsDefinition};
@@ -8,8 +8,8 @@ use crate::output::Output;
 use std::marker::Model;
 use wh_formula::{Filter, RowTest, RowValue};
 
-/// How a derived view is made of combined rows: of those that meet the equalities and pass the
-/// filter, it has this output. The rows have the filter's width, and each place lies in them.
+/// How a derived view is made of combined rows. Those that meet the equalities and pass the filter give this output. The rows have the
+/// filter's width, and each place lies in them.
 #[derive(Drop)]
 pub struct Definition<F: RowTest, G: RowValue> {
     join: Vec<(usize, usize)>,
@@ -32,8 +32,8 @@ impl<F: RowTest, G: RowValue> Model for Definition<F, G> {
 }
 
 impl<F: RowTest, G: RowValue> Definition<F, G> {
-    /// The definition with these equalities, each of two places of a row. The combiners are for
-    /// rows of the filter's width, in which all places lie (`fits` tests it).
+    /// Makes the definition with these equalities, each of two places of a row. The combiners have to be for rows of the filter's width, in
+    /// which all places lie; [`Definition::fits`] tests it.
     pub fn new(join: Vec<(usize, usize)>, filter: Filter<F>, out: Output<G>) -> Definition<F, G>
         requires { OfOneWidth join.items filter out }
         ensures { result ≡ definition_from join.items filter out }
@@ -41,8 +41,7 @@ impl<F: RowTest, G: RowValue> Definition<F, G> {
         Definition { join, filter, out }
     }
 
-    /// Whether these parts make a definition: the combiners are for rows of the filter's width,
-    /// in which all places lie.
+    /// Returns whether these parts make a definition: the combiners are for rows of the filter's width, in which all places lie.
     pub fn fits(join: &[(usize, usize)], filter: &Filter<F>, out: &Output<G>) -> bool
         ensures { IsTrue result ↔ OfOneWidth join.now filter.now out.now }
     {
@@ -51,7 +50,7 @@ impl<F: RowTest, G: RowValue> Definition<F, G> {
         are_within(join, width) && out.is_over(width)
     }
 
-    /// How many cells the combined rows have.
+    /// Returns how many cells the combined rows have.
     pub fn width(&self) -> usize
         ensures width { result ≡ self.now.width }
         ensures within { IsDefinition self.now }
@@ -59,7 +58,7 @@ impl<F: RowTest, G: RowValue> Definition<F, G> {
         self.filter.width()
     }
 
-    /// How many columns the view has.
+    /// Returns how many columns the view has.
     pub fn columns(&self) -> usize
         ensures columns { result ≡ columns self.now.output }
         ensures within { IsDefinition self.now }
@@ -67,7 +66,7 @@ impl<F: RowTest, G: RowValue> Definition<F, G> {
         self.out.columns()
     }
 
-    /// The equalities: at each pair of places a row has equal cells.
+    /// Returns the equalities: at each pair of places a row has equal cells.
     pub fn join(&self) -> &[(usize, usize)]
         ensures join { result.now ≡ self.now.join }
         ensures within { IsDefinition self.now }
@@ -75,7 +74,7 @@ impl<F: RowTest, G: RowValue> Definition<F, G> {
         &self.join
     }
 
-    /// The filter that a combined row passes.
+    /// Returns the filter that a combined row passes.
     pub fn filter(&self) -> &Filter<F>
         ensures pred { result.now.pred ≡ self.now.filter }
         ensures width { result.now.width ≡ self.now.width }
@@ -84,7 +83,7 @@ impl<F: RowTest, G: RowValue> Definition<F, G> {
         &self.filter
     }
 
-    /// The view's columns, whose combiners are for combined rows.
+    /// Returns the view's columns, whose combiners are for combined rows.
     pub fn output(&self) -> &Output<G>
         ensures output { output_of result.now ≡ self.now.output }
         ensures widths { All (λ c. c.width ≡ self.now.width) (combiners_of result.now) }

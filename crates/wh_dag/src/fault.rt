@@ -1,4 +1,4 @@
-// What is wrong with a shape that is written by names.
+//! What is wrong with a shape that is written by names, with what a message needs to say it.
 ghost use Rattle.std.specs.Prelude.{◌≡◌};
 ghost use Rattle.wh_dag.specs.Fault.{fault_number};
 
@@ -26,7 +26,7 @@ pub enum ShapeFault {
 }
 
 impl ShapeFault {
-    /// The refusal's number, from 1.
+    /// Returns the refusal's number, from 1.
     pub fn number(&self) -> u8
         ensures { result ≡ fault_number self.now }
     {

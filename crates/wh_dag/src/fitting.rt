@@ -1,4 +1,4 @@
-// Whether the parts of a catalogue fit together.
+//! Tests whether the parts of a catalogue fit together, before one is made of them.
 ghost use Rattle.std.specs.Prelude.{◌≡◌, ◌<◌, ◌≤◌, ◌↔◌, length, IsTrue, All};
 ghost use Rattle.wh_dag.specs.Catalog.{total_width};
 ghost use Rattle.wh_dag.specs.CatalogParts.{FitTogether, FitIsShown};
@@ -22,8 +22,8 @@ fn total_width(widths: &[usize], views: &[usize]) -> usize
     total
 }
 
-/// Whether there is a width for each base view and a definition for each derived one, no view
-/// without a column or with more than 64, and each definition over rows of its combined width.
+/// Returns whether these parts make a catalogue. There has to be a width for each base view and a definition for each derived one. Each
+/// view needs 1 to 64 columns, and each definition has to be over rows of its view's combined width.
 pub(crate) fn fits<F: RowTest, G: RowValue>(
     shape: &Shape,
     widths: &[usize],

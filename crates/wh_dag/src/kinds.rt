@@ -1,4 +1,4 @@
-// Kinds of shapes: trees, and uniform ones.
+//! Kinds of shapes, trees and uniform ones, for which a plan is found without a search.
 ghost use Rattle.std.specs.Prelude.{◌≡◌, ◌<◌, ◌≤◌, ◌↔◌, ◌+◌, ◌||◌, ℕ, length, slice_index, All, IsTrue, true};
 ghost use Rattle.wh_dag.specs.Shape.{Distinct, has};
 ghost use Rattle.wh_dag.specs.Kinds.{IsTree, IsUniform};
@@ -25,7 +25,7 @@ fn take_all(taken: &mut [bool; MAX_VIEWS], own: &[usize]) -> bool
     true
 }
 
-/// Whether no view has two parents.
+/// Returns whether no view has two parents.
 pub(crate) fn is_tree(shape: &ChildLists) -> bool
     ensures { IsTrue result ↔ IsTree shape.now }
 {
@@ -52,7 +52,7 @@ fn is_one_above(levels: &[usize], own: &[usize], level: usize) -> bool
     true
 }
 
-/// Whether each view is one level above each view that it is over, by these levels.
+/// Returns whether each view is one level above each view that it is over, by these levels.
 pub(crate) fn is_uniform(shape: &ChildLists, levels: &[usize]) -> bool
     requires len { length levels.now ≡ length shape.now }
     requires levels { (v : ℕ) → v < length shape.now → slice_index levels.now v ≡ level_of shape.now v }

@@ -1,4 +1,4 @@
-// The level of each view: 0 for a base, else one more than its highest child.
+//! The level of each view, reckoned once: 0 for a base, else one more than its highest child's.
 ghost use Rattle.std.specs.Prelude.{◌≡◌, ◌<◌, ◌≤◌, ℕ, length, map, slice_index, IfOk, OnErr, All, vec_len};
 ghost use Rattle.wh_dag.specs.Level.{level_over, level_of};
 
@@ -20,7 +20,7 @@ fn level_above(levels: &[usize], own: &[usize]) -> usize
     level
 }
 
-/// The level of each view.
+/// Returns the level of each view. Fails for want of memory alone.
 pub(crate) fn levels(alloc: Global, shape: &ChildLists) -> Result<Vec<usize>, AllocError>
     ensures len { IfOk result (λ levels. vec_len levels ≡ length shape.now) }
     ensures levels { IfOk result (λ levels. (v : ℕ) → v < length shape.now →

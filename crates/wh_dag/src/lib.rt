@@ -1,9 +1,8 @@
 //! Shapes of warehouses, the views by name and which views each is over, and catalogues, which define each view.
 //!
-//! A view is its number, counted from 0, and it is over views of lower numbers only, so no view is
-//! over itself. `Shape::new` reads a shape as it is written, by names, or names its first fault. A
-//! `Catalog` has for each derived view a `Definition` over its combined rows: a row of each child,
-//! one after another.
+//! A view is its number, counted from 0, and it is over views of lower numbers only, so no view is over itself. `Shape::new` reads a shape
+//! as it is written, by names, or names its first fault. A `Catalog` has for each derived view a `Definition` over its combined rows: a row
+//! of each child, one after another.
 #![tactic(auto)]
 
 mod catalog;

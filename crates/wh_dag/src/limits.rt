@@ -1,4 +1,4 @@
-// How large a shape and its views may be.
+//! How large a shape and its views may be, which bounds what a night can cost.
 
 ghost use Rattle.std.specs.Prelude.{◌≡◌, ◌≤◌, ◌*◌, ◌^◌};
 
@@ -11,7 +11,7 @@ pub(crate) const MAX_CHILDREN: usize = 6;
 /// The most columns of a view.
 pub const MAX_COLUMNS: usize = 64;
 
-/// Half of 2^n: in how many of the parts of n views that have a member one of them is. At most six views are parted.
+/// Returns half of 2^n: in how many of the parts of n views that have a member one of them is. At most six views are parted.
 pub fn half_power(n: usize) -> u128
     requires some { 1 ≤ n }
     requires few { n ≤ 6 }

@@ -1,4 +1,4 @@
-// The name of a view, as a fault carries it.
+//! The name of a view, as a fault carries it.
 ghost use Rattle.std.specs.Prelude.{◌≡◌, List, ℕ, string_bytes};
 
 use std::marker::Model;
@@ -16,21 +16,21 @@ impl Model for Name {
 }
 
 impl Name {
-    /// The name that this text is.
+    /// Takes a text as a name, with no copy.
     pub fn new(text: String) -> Name
         ensures { result ≡ string_bytes text }
     {
         Name { text }
     }
 
-    /// The name as a text.
+    /// Returns the name as a text.
     pub fn as_str(&self) -> &str
         ensures { result.now ≡ self.now }
     {
         self.text.as_str()
     }
 
-    /// The text that the name was made of, with no copy.
+    /// Returns the text that the name was made of, with no copy.
     pub fn into_string(self) -> String
         ensures { string_bytes result ≡ self }
     {

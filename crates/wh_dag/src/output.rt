@@ -1,4 +1,4 @@
-// The columns of a derived view.
+//! The columns of a derived view: those of a joined view, or of a summary.
 ghost use Rattle.std.specs.Prelude.{◌≡◌, ◌<◌, ◌↔◌, ◌==◌, ◌&&◌, IsTrue, All, nat_lt};
 ghost use Rattle.std.specs.List.{list_all};
 ghost use Rattle.wh_formula.specs.Expr.{fits};
@@ -23,7 +23,7 @@ pub enum Output<G: RowValue> {
 }
 
 impl<G: RowValue> Output<G> {
-    /// How many columns there are.
+    /// Returns how many columns there are.
     pub fn columns(&self) -> usize
         ensures { result ≡ columns (output_of self.now) }
     {
@@ -33,7 +33,7 @@ impl<G: RowValue> Output<G> {
         }
     }
 
-    /// How many sums there are: a joined view has none.
+    /// Returns how many sums there are: a joined view has none.
     pub fn sums(&self) -> usize
         ensures { result ≡ sums_in (output_of self.now) }
     {
@@ -43,7 +43,7 @@ impl<G: RowValue> Output<G> {
         }
     }
 
-    /// Whether the combiners are for rows of this width, and each place that is read lies in them.
+    /// Returns whether the combiners are for rows of this width, and each place that is read lies in them.
     pub fn is_over(&self, width: usize) -> bool
         ensures { IsTrue result ↔ IsOver width self.now }
     {

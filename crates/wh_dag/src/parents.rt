@@ -1,11 +1,11 @@
-// The views over a view.
+//! Finds the views over a view, which child lists do not name.
 ghost use Rattle.std.specs.Prelude.{◌≡◌, ◌≢◌, [], IfOk, OnErr};
 ghost use Rattle.wh_dag.specs.Parents.{parents_of};
 
 use crate::child_lists::ChildLists;
 use std::alloc::{AllocError, Global};
 
-/// The views over this one, rising.
+/// Returns the views over this one, rising.
 #[tactic(auto, unfolding(crate::specs::Parents::parents_of))]
 pub(crate) fn parents_of_view(
     alloc: Global,

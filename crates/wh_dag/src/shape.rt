@@ -1,4 +1,4 @@
-// A shape: the names of the views, and which views each is over.
+//! A shape: the names of the views, and which views each is over.
 ghost use Rattle.std.specs.Prelude.{◌≡◌, ◌≢◌, ◌<◌, ◌⊎◌, ◌==◌, ◌↔◌, [], length, map, IfOk, IfErr, OnOk, OnErr, IsTrue, Some, None, vec_len};
 ghost use Rattle.wh_dag.specs.Shape.{IsShape, children_of};
 ghost use Rattle.wh_dag.specs.Kinds.{IsTree, IsUniform};
@@ -39,11 +39,12 @@ impl Model for Shape {
 }
 
 impl Shape {
-    /// The shape of these views, where `over` has for each view None (a base view) or the names of
-    /// its children. The fault is the first one, view by view: TooMany (the 65th view), Duplicate,
-    /// EmptyOver, TooMany (more than 6 children), then child by child Unknown, Forward, Repeated. A
-    /// name that two views have means the first of them. Makes O(V² C) comparisons of names for V
-    /// views of at most C children each.
+    /// Reads the shape of these views, where `over` has for each view None (a base view) or the names of its children. A name that two
+    /// views have means the first of them.
+    ///
+    /// The fault is the first one, view by view: TooMany (the 65th view), Duplicate, EmptyOver, TooMany (more than 6 children), then child
+    /// by child Unknown, Forward, Repeated. Memory may come in place of any of them, but not where there is no view. Makes O(V² C)
+    /// comparisons of names for V views of at most C children each.
     pub fn new(
         alloc: Global,
         names: Vec<String>,
@@ -71,7 +72,7 @@ impl Shape {
         })
     }
 
-    /// How many views the shape has.
+    /// Returns how many views the shape has.
     pub fn len(&self) -> usize
         ensures len { result ≡ length self.now.children }
         ensures named { length self.now.names ≡ length self.now.children }
@@ -80,14 +81,14 @@ impl Shape {
         self.children.len()
     }
 
-    /// Whether the shape has no view.
+    /// Returns whether the shape has no view.
     pub fn is_empty(&self) -> bool
         ensures { result ≡ (length self.now.children == 0) }
     {
         self.children.is_empty()
     }
 
-    /// The name of the view; a number that is no view's has none.
+    /// Returns the name of the view; a number that is no view's has the empty one.
     pub fn name(&self, view: usize) -> &str
         ensures { result.now ≡ name_of self.now.names view }
     {
@@ -97,7 +98,7 @@ impl Shape {
         }
     }
 
-    /// The views that this one is over, in the order written: none for a base view.
+    /// Returns the views that this one is over, in the order written: none for a base view.
     pub fn children(&self, view: usize) -> &[usize]
         requires { view < length self.now.children }
         ensures children { result.now ≡ children_of self.now.children view }
@@ -106,7 +107,7 @@ impl Shape {
         self.children.of(view)
     }
 
-    /// The child lists of all views.
+    /// Returns the child lists of all views.
     pub fn child_lists(&self) -> &ChildLists
         ensures lists { result.now ≡ self.now.children }
         ensures shape { IsShape self.now.children }
@@ -114,8 +115,7 @@ impl Shape {
         &self.children
     }
 
-    /// The views over this one, rising. Takes no memory where there is none. Takes O(V C) for V views
-    /// of at most C children each.
+    /// Returns the views over this one, rising. Takes no memory where there is none. Takes O(V C) for V views of at most C children each.
     pub fn parents(&self, alloc: Global, view: usize) -> Result<Vec<usize>, AllocError>
         ensures parents { IfOk result (λ parents. parents.items ≡ parents_of self.now.children view) }
         ensures memory { OnErr result (parents_of self.now.children view ≢ []) }
@@ -123,8 +123,8 @@ impl Shape {
         parents::parents_of_view(alloc, &self.children, view)
     }
 
-    /// The sibling pairs (parent, lower, higher), rising: for each view all two views that it is over.
-    /// Takes no memory where there is none. Takes O(V² C²) for V views of at most C children each.
+    /// Returns the sibling pairs (parent, lower, higher), rising: for each view all two views that it is over. Takes no memory where there
+    /// is none. Takes O(V² C²) for V views of at most C children each.
     pub fn sibling_pairs(&self, alloc: Global) -> Result<Vec<SiblingPair>, AllocError>
         ensures pairs { IfOk result (λ pairs. pairs.items ≡ sibling_pairs_of self.now.children) }
         ensures memory { OnErr result (sibling_pairs_of self.now.children ≢ []) }
@@ -132,8 +132,8 @@ impl Shape {
         siblings::sibling_pairs(alloc, &self.children)
     }
 
-    /// The couples (lower, higher), rising: all two views that have a common parent, each couple once.
-    /// Takes no memory where there is none. Takes O(V³ C) for V views of at most C children each.
+    /// Returns the couples (lower, higher), rising: all two views that have a common parent, each couple once. Takes no memory where there
+    /// is none. Takes O(V³ C) for V views of at most C children each.
     pub fn couples(&self, alloc: Global) -> Result<Vec<Couple>, AllocError>
         ensures couples { IfOk result (λ couples. couples.items ≡ couples_of self.now.children) }
         ensures memory { OnErr result (couples_of self.now.children ≢ []) }
@@ -141,7 +141,7 @@ impl Shape {
         siblings::couples(alloc, &self.children)
     }
 
-    /// The level of the view: 0 for a base, else one more than its highest child's.
+    /// Returns the level of the view: 0 for a base, else one more than its highest child's. Takes O(1).
     pub fn level(&self, view: usize) -> usize
         requires { view < length self.now.children }
         ensures value { result ≡ level_of self.now.children view }
@@ -151,16 +151,15 @@ impl Shape {
         self.levels[view]
     }
 
-    /// Whether no view has two parents. Takes no memory. Takes O(V C) for V views of at most C
-    /// children each.
+    /// Returns whether no view has two parents. Takes no memory. Takes O(V C) for V views of at most C children each.
     pub fn is_tree(&self) -> bool
         ensures { IsTrue result ↔ IsTree self.now.children }
     {
         kinds::is_tree(&self.children)
     }
 
-    /// Whether each view of level 1 or more is over views of the level below it only. Takes no memory.
-    /// Takes O(V C) for V views of at most C children each.
+    /// Returns whether each view of level 1 or more is over views of the level below it only. Takes no memory. Takes O(V C) for V views of
+    /// at most C children each.
     pub fn is_uniform(&self) -> bool
         ensures { IsTrue result ↔ IsUniform self.now.children }
     {

@@ -1,4 +1,4 @@
-// Views with a common parent.
+//! Views with a common parent, whose order of installation decides what a night costs.
 ghost use Rattle.std.specs.Prelude.{◌≡◌, ◌≢◌, ◌<◌, ◌≤◌, ◌++◌, [], ℕ, List, IfOk, OnOk, OnErr, length, filter};
 ghost use Rattle.wh_dag.specs.Shape.{IsShape};
 ghost use Rattle.wh_dag.specs.Siblings.{is_sibling_pair, is_couple, triples_with, triples_of, pairs_with, sibling_pairs_of, couples_of};
@@ -18,7 +18,7 @@ pub struct SiblingPair {
 }
 
 impl SiblingPair {
-    /// Whether the parent is over both in this shape, the lower number being the lower one.
+    /// Returns whether the parent is over both in this shape, the lower number being the lower one.
     pub fn is_of(self, shape: &ChildLists) -> bool
         ensures { result ≡ is_sibling_pair shape.now self }
     {
@@ -38,7 +38,7 @@ pub struct Couple {
 }
 
 impl Couple {
-    /// Whether a view of this shape is over both, the lower number being the lower one.
+    /// Returns whether a view of this shape is over both, the lower number being the lower one.
     pub fn is_of(self, shape: &ChildLists) -> bool
         ensures { result ≡ is_couple shape.now self }
     {
@@ -82,7 +82,7 @@ fn add_of(pairs: &mut Vec<SiblingPair>, shape: &ChildLists, parent: usize) -> Re
     Ok(())
 }
 
-/// The sibling pairs of the shape, rising.
+/// Returns the sibling pairs of the shape, rising.
 pub(crate) fn sibling_pairs(
     alloc: Global,
     shape: &ChildLists,
@@ -115,7 +115,7 @@ fn add_couples_with(
     Ok(())
 }
 
-/// The couples of the shape, each once, rising.
+/// Returns the couples of the shape, each once, rising.
 pub(crate) fn couples(alloc: Global, shape: &ChildLists) -> Result<Vec<Couple>, AllocError>
     ensures couples { IfOk result (λ couples. couples.items ≡ couples_of shape.now) }
     ensures memory { OnErr result (couples_of shape.now ≢ []) }
@@ -127,8 +127,8 @@ pub(crate) fn couples(alloc: Global, shape: &ChildLists) -> Result<Vec<Couple>, 
     Ok(couples)
 }
 
-/// A law of the definitions: a shape has at most 960 couples, since each of at most 64 views is over at most 6, of which
-/// 15 couples can be made.
+/// A law of the definitions: a shape has at most 960 couples. Each of its at most 64 views is over at most 6, of which 15 couples can be
+/// made.
 pub fn few_couples_law()
     ensures { (shape : List (List ℕ)) → IsShape shape → length (couples_of shape) ≤ 960 }
 {}

@@ -1,8 +1,8 @@
-// Lists of views.
+//! Lists of views.
 ghost use Rattle.std.specs.Prelude.{◌≡◌};
 ghost use Rattle.wh_dag.specs.Shape.{has};
 
-/// Whether the view stands in the list.
+/// Returns whether the view stands in the list. Takes O(n) for n views in the list.
 #[tactic(auto, unfolding(crate::specs::Shape::has))]
 pub fn has_view(views: &[usize], view: usize) -> bool
     ensures { result ≡ has views.now view }

@@ -1,4 +1,4 @@
-// The written shape: names in place of numbers, read view by view up to the first fault.
+//! Reads a written shape: names in place of numbers, view by view up to the first fault.
 ghost use Rattle.std.specs.Prelude.{◌≡◌, ◌<◌, ◌⊎◌, [], length, map, take, IfOk, IfErr, OnOk, OnErr, Some, None};
 ghost use Rattle.wh_dag.specs.Lists.{lists_of};
 ghost use Rattle.wh_dag.specs.Written.{texts, written, written_list, name_of, is_named, number_of, numbers_of, children_written};
@@ -140,7 +140,7 @@ fn children_of_view(
     }
 }
 
-/// The children of each view, by their numbers, or the first fault.
+/// Returns the children of each view, by their numbers, or the first fault.
 pub(crate) fn child_lists(
     alloc: Global,
     names: &[String],

@@ -22,7 +22,7 @@ opens_grow s t (Err (Expired v n a)) h = absurd h
 opens_grow s t (Err NoView) h = absurd h
 opens_grow s t (Err Memory) h = absurd h
 
-pub reads_grow : (s t : Sitting) (view : ℕ) (after : Option Row) (limit : ℕ) (r : Result Shown DeskFault) → MatchResult r (Reads s t view after limit) (NotRead s t view) → Grows s t
+pub reads_grow : (s t : Sitting) (view : ℕ) (after : Option Row) (limit : ℕ) (r : Result Shown DeskFault) → MatchResult r (Reads s t view after limit) (NotRead s t view after limit) → Grows s t
 reads_grow s t view after limit (Ok page) h = h.1.0.0
 reads_grow s t view after limit (Err SessionOpen) h = absurd h
 reads_grow s t view after limit (Err Away) h = same_grows s t h.0

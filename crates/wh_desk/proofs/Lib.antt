@@ -4,4 +4,6 @@ mod Adding
 mod Keeps
 mod Waiting
 mod Growing
+pub mod Answering
+pub mod Turns
 pub mod Telling

@@ -6,6 +6,7 @@ use Rattle.wh_row.specs.Row.{Row}
 use Rattle.wh_store.specs.Pages.{Shown, page_of}
 use Rattle.wh_store.specs.Versions.{Versions, number, table_in, table_of, version}
 use Rattle.wh_desk.specs.Desks.{Grows, OpensAt, Reads, SeenVersionsStay, Sitting, versions_seen}
+use Rattle.wh_desk.proofs.Answering.{by_parts}
 use Rattle.wh_desk.proofs.Prefixes.{prefix_trans}
 
 pub grows_on : (s t u : Sitting) → Grows s t → Grows t u → Grows s u
@@ -23,4 +24,4 @@ told_page stay w s t u v view limit after page grows opens current reads =
     let k : ℕ = number (versions_seen w) in
     let at : reads.0 ≡ k = same_Some reads.0 v (sym reads.1.1 ∙ opens.2) ∙ current in
     let is : version (versions_seen u) k ≡ (versions_seen w).newest = (stay w u k on (omega arith)).1 ∙ newest_is (versions_seen w) in
-    reads.2.2 ∙ ap (λ (n : ℕ). page_of (table_of (versions_seen u) n view) after limit) at ∙ ap (λ contents. page_of (table_in contents view) after limit) is
+    (by_parts u reads.0 view after limit page reads.2).2 ∙ ap (λ (n : ℕ). page_of (table_of (versions_seen u) n view) after limit) at ∙ ap (λ contents. page_of (table_in contents view) after limit) is

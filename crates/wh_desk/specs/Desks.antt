@@ -1,12 +1,13 @@
 -- What callers see of a desk, and how it is answered.
-use Rattle.std.specs.Prelude.{◌≡◌, ◌≢◌, ◌<◌, ◌≤◌, ℕ, false, Bool, IsTrue, List, [], length, Option, Some, None}
+use Rattle.std.specs.Prelude.{◌≡◌, ◌≢◌, ◌≤◌, ℕ, IsTrue, List, [], length, Option, Some, None, Result, Ok, Err}
 use mathlib.Core.List.{IsPrefix}
 use Rattle.left_right.specs.Sides.{view}
 use Rattle.logbook.specs.Pages.{Book}
 use Rattle.wh_row.specs.Row.{Row}
 use Rattle.wh_store.specs.Operations.{Operation}
-use Rattle.wh_store.specs.Pages.{Shown, page_of}
-use Rattle.wh_store.specs.Versions.{Versions, is_active, is_unexpired, is_well_formed, number, table_of, version}
+use Rattle.wh_store.specs.Pages.{Shown}
+use Rattle.wh_store.specs.Readers.{Is_expired, No_such_view, Unread, read_by}
+use Rattle.wh_store.specs.Versions.{Versions, is_active, is_well_formed, number, version}
 use Rattle.wh_store.specs.Ledgers.{Warehouse, versions_in}
 use Rattle.wh_desk.specs.declared.chair.Chair.{Chair}
 use Rattle.wh_desk.specs.declared.chair.DeskFault.{DeskFault}
@@ -59,40 +60,22 @@ NotOpened s t Memory = ⊥
 abbrev pub Stays : Sitting → Sitting → ℕ → Type 0
 Stays s t v = GoesOn s t × (s.session ≡ Some v) × (t.session ≡ Some v)
 
--- sessions of this version can be read of the list
-abbrev pub is_readable : Sitting → ℕ → Bool
-is_readable t v = is_unexpired t.of.limit (versions_seen t) v
+-- what a read of a view in this version comes to, in the list that is seen
+unfoldable pub answer_in : Sitting → ℕ → ℕ → Option Row → ℕ → Result Shown Unread
+answer_in t v view after limit = read_by Err Ok t.of.limit (number (versions_seen t)) (is_active (versions_seen t)) (version (versions_seen t) v) v view after limit
 
--- the page of a view in this version, in the list that is seen
-abbrev pub IsPage : Sitting → ℕ → ℕ → Option Row → ℕ → Shown → Type 0
-IsPage t v view after limit page =
-    IsTrue (is_readable t v) × (view < length (version (versions_seen t) v)) × (page ≡ page_of (table_of (versions_seen t) v view) after limit)
-
--- why there is none: the version can be read no more, or has no such view; memory may be refused at any point
-abbrev pub NoPage : Sitting → ℕ → ℕ → DeskFault → Type 0
-NoPage t v view (Expired of current active) =
-    (of ≡ v) × (is_readable t v ≡ false) × (current ≡ number (versions_seen t)) × (active ≡ is_active (versions_seen t))
-NoPage t v view NoView = IsTrue (is_readable t v) × (length (version (versions_seen t) v) ≤ view)
-NoPage t v view Memory = Unit {0}
-NoPage t v view NoSession = ⊥
-NoPage t v view SessionOpen = ⊥
-NoPage t v view Away = ⊥
-
+-- the page of a view in the session's version, in the list that is seen
 abbrev pub Reads : Sitting → Sitting → ℕ → Option Row → ℕ → Shown → Type 0
-Reads s t view after limit page = (v : ℕ) × Stays s t v × IsPage t v view after limit page
+Reads s t view after limit page = (v : ℕ) × Stays s t v × (answer_in t v view after limit ≡ Ok page)
 
-abbrev pub NotRead : Sitting → Sitting → ℕ → DeskFault → Type 0
-NotRead s t view NoSession = (t ≡ s) × (s.session ≡ None)
-NotRead s t view Away = (t ≡ s) × (s.session ≢ None)
-NotRead s t view SessionOpen = ⊥
-NotRead s t view (Expired of current active) = (v : ℕ) × Stays s t v × NoPage t v view (Expired of current active)
-NotRead s t view NoView = (v : ℕ) × Stays s t v × NoPage t v view NoView
-NotRead s t view Memory = (v : ℕ) × Stays s t v
-
--- the session's version can be read, and the page of a view in it has a row
-abbrev pub ShowsRows : Sitting → ℕ → Option Row → ℕ → Type 0
-ShowsRows t view after limit =
-    (v : ℕ) × (t.session ≡ Some v) × IsTrue (is_readable t v) × ((page_of (table_of (versions_seen t) v view) after limit).rows ≢ [])
+-- why there is no page; memory may be wanted for a page's rows alone
+abbrev pub NotRead : Sitting → Sitting → ℕ → Option Row → ℕ → DeskFault → Type 0
+NotRead s t view after limit NoSession = (t ≡ s) × (s.session ≡ None)
+NotRead s t view after limit Away = (t ≡ s) × (s.session ≢ None)
+NotRead s t view after limit SessionOpen = ⊥
+NotRead s t view after limit (Expired of current active) = (v : ℕ) × Stays s t v × (answer_in t v view after limit ≡ Err (Is_expired of current active))
+NotRead s t view after limit NoView = (v : ℕ) × Stays s t v × (answer_in t v view after limit ≡ Err No_such_view)
+NotRead s t view after limit Memory = (v : ℕ) × Stays s t v × ((page : Shown) × (answer_in t v view after limit ≡ Ok page) × (page.rows ≢ []))
 
 -- a version of a list that a desk saw has the same contents in each list that goes on from it
 abbrev pub SeenVersionsStay : Type 0

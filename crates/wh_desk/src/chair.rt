@@ -1,9 +1,9 @@
-//! What a desk has, and why it has no answer.
+//! Keeps what a desk has, and names why it has no answer.
 
 use crate::history::Told;
 use crate::steps::RawReader;
 
-/// A reader of the store, the list that was seen or told, and the version of the session that is open.
+/// The place of a desk: a reader of the store, the list that was seen or told, and the version of the session that is open.
 #[derive(Drop)]
 pub struct Chair {
     pub reader: RawReader,
@@ -11,24 +11,24 @@ pub struct Chair {
     pub session: Option<u64>,
 }
 
-/// Why a desk has no answer: the first of [`DeskFault::NoSession`] or [`DeskFault::SessionOpen`], [`DeskFault::Away`],
-/// [`DeskFault::Expired`] and [`DeskFault::NoView`] that holds, but for memory, which may come at any point of a read.
+/// The reasons for which a desk has no answer. It is the first that holds of [`DeskFault::NoSession`] or [`DeskFault::SessionOpen`],
+/// [`DeskFault::Away`], [`DeskFault::Expired`] and [`DeskFault::NoView`]. Memory may come at any point of a read.
 #[derive(Clone, Copy, Debug, PartialEq, Eq)]
 pub enum DeskFault {
     /// The desk has no session.
     NoSession,
-    /// The desk has one.
+    /// The desk has a session already.
     SessionOpen,
     /// The session's version can be read no more.
     Expired {
-        /// Of the session.
+        /// The session's version.
         version: u64,
-        /// The current one.
+        /// The current version.
         current: u64,
         /// Whether a night is open.
         active: bool,
     },
-    /// There is no such view.
+    /// There is no view of this number.
     NoView,
     /// Memory was refused.
     Memory,

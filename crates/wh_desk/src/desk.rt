@@ -1,4 +1,4 @@
-//! A desk, which reads what is published and never waits.
+//! Reads what is published, at a desk that never waits.
 
 ghost use Rattle.std.specs.Prelude.{◌≡◌, ◌⊎◌, ◌≤◌, ◌<◌, None, Some, Ok, Err, MatchBool, MatchOption, MatchResult, length, option_map};
 ghost use mathlib.Core.List.{IsPrefix};
@@ -7,8 +7,8 @@ ghost use Rattle.wh_store.specs.Versions.{number};
 ghost use Rattle.wh_store.specs.Ledgers.{versions_in};
 ghost use Rattle.wh_desk.specs.Known.{Begins, known};
 ghost use Rattle.wh_desk.specs.Rules.{IsCopy};
-ghost use Rattle.wh_desk.specs.Desks.{sitting, sitting_of, Grows, IsPage, NoPage, OpensAt, NotOpened, Reads, NotRead, ShowsRows};
-ghost use Rattle.wh_desk.specs.Inner.Desks.{Knows, IsDesk};
+ghost use Rattle.wh_desk.specs.Desks.{sitting, sitting_of, Grows, OpensAt, NotOpened, Reads, NotRead};
+ghost use Rattle.wh_desk.specs.Inner.Desks.{Knows, IsAnswerIn, IsDesk, IsPage, NoPage, ShowsRows};
 
 use crate::chair::{Chair, DeskFault};
 use crate::history::Told;
@@ -18,8 +18,9 @@ use core::mem::replace_with;
 use std::marker::Model;
 use wh_store::{Page, told_law};
 
-/// A reader's place at the warehouse. Seen as the warehouse, the longest beginning of its published list that the desk has seen or was
-/// told, and the version of its session.
+/// A reader's place at the warehouse.
+/// It is seen as the warehouse, the longest beginning of its published list that the desk has seen or was told, and the version of its
+/// session.
 #[derive(Drop)]
 pub struct Desk {
     pub(crate) chair: Chair,
@@ -51,7 +52,7 @@ fn look(chair: Chair) -> Result<(RawReading, Told), Chair>
     let reader = match enter(reader) {
         Err(reader) => reader,
         Ok(reading) => {
-            let shown = reading.get().front.again();
+            let shown = reading.get().front.share();
             if shown.covers(&front) {
                 return Ok((reading, shown));
             }
@@ -97,6 +98,23 @@ fn read(
     }
 }
 
+/// Reads a copy, in a session of this version, and answers by the rule of readers.
+#[tactic(auto, using(crate::proofs::Answering::by_rule))]
+fn answer(
+    kept: &Kept,
+    version: u64,
+    view: usize,
+    after: Option<&[i64]>,
+    limit: usize,
+) -> Result<Page, DeskFault>
+    requires copy { IsCopy kept.now }
+    requires least { 1 ≤ limit }
+    requires most { limit ≤ 256 }
+    ensures { IsAnswerIn (sitting kept.now.front (Some version)) version view (option_map (λ row. row.now) after.entry) limit result }
+{
+    read(kept, version, view, after, limit)
+}
+
 /// The number of the current version of a copy.
 fn current(kept: &Kept) -> u64
     requires { IsCopy kept.now }
@@ -137,8 +155,7 @@ fn page_at(
     requires least { 1 ≤ limit }
     requires most { limit ≤ 256 }
     ensures desk { IsDesk result.0 }
-    ensures answer { MatchResult result.1 (Reads (sitting_of chair) (sitting_of result.0) view (option_map (λ row. row.now) after.entry) limit) (NotRead (sitting_of chair) (sitting_of result.0) view) }
-    ensures memory { result.1 ≡ Err DeskFault.Memory → ShowsRows (sitting_of result.0) view (option_map (λ row. row.now) after.entry) limit }
+    ensures answer { MatchResult result.1 (Reads (sitting_of chair) (sitting_of result.0) view (option_map (λ row. row.now) after.entry) limit) (NotRead (sitting_of chair) (sitting_of result.0) view (option_map (λ row. row.now) after.entry) limit) }
 {
     let Some(version) = chair.session else {
         return (chair, Err(DeskFault::NoSession));
@@ -146,19 +163,19 @@ fn page_at(
     match look(chair) {
         Err(chair) => (chair, Err(DeskFault::Away)),
         Ok((reading, front)) => {
-            let answer = read(reading.get(), version, view, after, limit);
+            let page = answer(reading.get(), version, view, after, limit);
             let chair = Chair {
                 reader: reading.leave(),
                 front,
                 session: Some(version),
             };
-            (chair, answer)
+            (chair, page)
         }
     }
 }
 
 impl Desk {
-    /// From now on the desk sees no less than was told. Answers whether it is now all that the desk has seen or was told.
+    /// Has the desk see, from now on, no less than was told. Returns whether that is now all that the desk has seen or was told.
     pub fn learn(&mut self, told: Told) -> bool
         requires { told.book ≡ self.old.book }
         ensures exact { MatchBool result (self.new.list ≡ told.list) (length told.list < length self.new.list) }
@@ -174,14 +191,15 @@ impl Desk {
         true
     }
 
-    /// All that the desk has seen and was told, to be handed to another thread.
+    /// Returns all that the desk has seen and was told, to be handed to another thread.
     pub fn seen(&self) -> Told
         ensures { result ≡ known self.now.book self.now.of self.now.list }
     {
-        self.chair.front.again()
+        self.chair.front.share()
     }
 
-    /// Opens a session at the current version, which it answers.
+    /// Opens a session at the current version, and returns this version.
+    /// Fails with SessionOpen, then with Away.
     #[tactic(auto, using(crate::proofs::Growing::opens_grow))]
     pub fn open(&mut self) -> Result<u64, DeskFault>
         ensures grows { Grows self.old self.new }
@@ -193,10 +211,10 @@ impl Desk {
         replace_with(&mut self.chair, (), |chair, _| open_at(chair))
     }
 
-    /// A page of a view in the session's version: its first rows after this one, or from its beginning, at most `limit`, which is 1 to 256.
-    /// Memory is wanted for its rows alone.
-    /// Takes O(w (log n + p)) time for the view's n rows of w cells, p of which it walks through: also those that the version does
-    /// not show.
+    /// Returns a page of a view in the session's version: its first rows after this one, or from its beginning, at most `limit`.
+    /// Fails with NoSession, then Away, Expired and NoView. Memory may come at any point, but is wanted for the page's rows alone.
+    /// Takes O(w (log n + p)) time for the view's n rows of w cells, p of which it walks through: also those that the version does not
+    /// show.
     #[tactic(auto, using(crate::proofs::Growing::reads_grow))]
     pub fn page(
         &mut self,
@@ -207,8 +225,7 @@ impl Desk {
         requires least { 1 ≤ limit }
         requires most { limit ≤ 256 }
         ensures grows { Grows self.old self.new }
-        ensures answer { MatchResult result (Reads self.old self.new view (option_map (λ row. row.now) after.entry) limit) (NotRead self.old self.new view) }
-        ensures memory { result ≡ Err DeskFault.Memory → ShowsRows self.new view (option_map (λ row. row.now) after.entry) limit }
+        ensures answer { MatchResult result (Reads self.old self.new view (option_map (λ row. row.now) after.entry) limit) (NotRead self.old self.new view (option_map (λ row. row.now) after.entry) limit) }
     {
         replace_with(
             &mut self.chair,
@@ -217,14 +234,15 @@ impl Desk {
         )
     }
 
-    /// The version of the session that is open, if one is.
+    /// Returns the version of the session that is open; `None` where none is.
     pub fn session(&self) -> Option<u64>
         ensures { result ≡ self.now.session }
     {
         self.chair.session
     }
 
-    /// Ends the session, where one is open.
+    /// Ends the session.
+    /// Fails with NoSession where none is open.
     pub fn close(&mut self) -> Result<(), DeskFault>
         ensures closed { self.new ≡ record self.old { session = None } }
         ensures refused { MatchOption self.old.session (result ≡ Err DeskFault.NoSession) (λ _. result ≡ Ok tt) }

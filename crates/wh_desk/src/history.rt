@@ -1,5 +1,5 @@
-//! The history of a warehouse: what it began with, and the operations that were published. It exists in the proofs alone; what lies in
-//! memory is the number of operations.
+//! Keeps the history of a warehouse: what it began with, and the operations that were published. It exists in the proofs alone; what lies
+//! in memory is the number of operations.
 
 ghost use Rattle.std.specs.Prelude.{◌≡◌, ◌≤◌, ◌++◌, ◌∷◌, [], IsTrue, IfSome, MatchBool, length, nat_le};
 ghost use Rattle.wh_store.specs.Operations.{operation};
@@ -20,7 +20,7 @@ pub enum Chapter {
     Done(Op),
 }
 
-/// The rule of the history.
+/// The rule of the history: which entry may come where.
 pub struct Law;
 
 impl Rule<Chapter, u64> for Law {
@@ -41,7 +41,7 @@ impl Rule<Chapter, u64> for Law {
     ghost moves = { λ ask before after answer. Unit {0} };
 }
 
-/// The history begins with what a store shows.
+/// The opening of the history, with what a store shows.
 pub struct Opens;
 
 impl Opening<Store, Chapter> for Opens {
@@ -51,7 +51,7 @@ impl Opening<Store, Chapter> for Opens {
     ghost log = { λ words store. Opened store ∷ [] };
 }
 
-/// Nothing is traded.
+/// The trade in which nothing is given.
 pub struct Nothing;
 
 impl Gain<Chapter, u64> for Nothing {
@@ -60,7 +60,7 @@ impl Gain<Chapter, u64> for Nothing {
     ghost after = { λ names about answer. ftrue };
 }
 
-/// A step that adds an operation.
+/// The step that adds an operation.
 pub struct Add;
 
 impl Play<Chapter, u64> for Add {
@@ -100,8 +100,8 @@ impl Model for Told {
 }
 
 impl Told {
-    /// A copy.
-    pub fn again(&self) -> Told
+    /// Makes a copy.
+    pub fn share(&self) -> Told
         ensures same { result ≡ self.now }
         ensures well_formed { IsTrue (is_well_formed (length result.of.opening) result.list) }
         ensures limit { 2 ≤ result.of.limit }
@@ -112,7 +112,7 @@ impl Told {
         }
     }
 
-    /// Whether it has all that the other has. Else the other has all that it has.
+    /// Tells whether this has all that the other has. Where it has not, the other has all that this has.
     pub(crate) fn covers(&self, other: &Told) -> bool
         requires { other.now.book ≡ self.now.book }
         ensures begins { MatchBool result (Begins other.now self.now) (Begins self.now other.now) }
@@ -153,7 +153,7 @@ impl Told {
     }
 }
 
-/// The right to go on with a history, by its one word.
+/// The right to go on with a history, which one owner has.
 #[derive(Drop)]
 pub struct History {
     word: Word<Chapter, u64, Law>,
@@ -176,7 +176,7 @@ impl Model for History {
 }
 
 impl History {
-    /// The history of a warehouse that begins with what this store shows.
+    /// Begins the history of a warehouse with what this store shows.
     pub fn new(store: &Store) -> History
         requires { 2 ≤ store.now.limit }
         ensures { result ≡ known result.book (record { limit = store.now.limit; opening = current store.now }) [] }
@@ -190,14 +190,14 @@ impl History {
         }
     }
 
-    /// What it has so far.
+    /// Returns the history so far.
     pub fn told(&self) -> Told
         ensures { result ≡ self.now }
     {
-        self.told.again()
+        self.told.share()
     }
 
-    /// Adds an operation. It does not where another went on with the history, or the count is full.
+    /// Adds an operation, and returns whether it did. It does not where another went on with the history, or the count is full.
     pub fn add(&mut self, op: &Op) -> bool
         requires { IsStory (known self.old.book self.old.of (self.old.list ++ operation op.now ∷ [])) }
         ensures { MatchBool result (self.new ≡ known self.old.book self.old.of (self.old.list ++ operation op.now ∷ [])) (self.new ≡ self.old) }

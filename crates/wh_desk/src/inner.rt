@@ -1,4 +1,4 @@
-//! What a writer has.
+//! Holds what a writer has.
 
 use crate::history::History;
 use crate::kept::Publication;
@@ -10,6 +10,6 @@ pub struct Inner {
     pub raw: Raw,
     pub history: History,
     pub held: Option<Publication>,
-    /// How the operation that waits, there or in the copies, ends the night, if it does.
+    /// The way in which the operation that waits, there or in the copies, ends the night; `None` where it does not.
     pub ends: Option<Ended>,
 }

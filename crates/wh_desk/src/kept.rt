@@ -1,4 +1,4 @@
-//! The store as the two copies keep it, beside the list that it shows.
+//! Keeps the store, as the two copies do, beside the list that it shows.
 
 ghost use Rattle.std.specs.Prelude.{◌≡◌};
 ghost use Rattle.wh_desk.specs.Rules.{taken_in};
@@ -8,7 +8,7 @@ use left_right::Absorb;
 use std::alloc::AllocError;
 use wh_store::{Op, Store};
 
-/// What is published: an operation, and the list that ends with it.
+/// A publication: an operation, and the list that ends with it.
 #[derive(Drop)]
 pub struct Publication {
     pub op: Op,
@@ -33,7 +33,7 @@ impl Absorb<Publication> for Kept {
         if self.store.apply(&publication.op).is_err() {
             return Err(AllocError);
         }
-        self.front = publication.front.again();
+        self.front = publication.front.share();
         Ok(())
     }
 }

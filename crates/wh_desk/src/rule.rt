@@ -1,4 +1,4 @@
-//! What each place at the store knows, and what each step tells it.
+//! Says what each place at the store knows, and what each step tells it.
 
 ghost use Rattle.std.specs.Prelude.{◌≡◌, None, Some};
 ghost use Rattle.wh_desk.specs.Rules.{Sees};
@@ -9,7 +9,7 @@ use crate::kept::Kept;
 use atomic_table::{Join, Split};
 use crossbeam_utils::rule::{Outcome, Protocol};
 
-/// A place knows the list that it saw last, if it saw one.
+/// The rule of a place: it knows the list that it saw last, if it saw one.
 pub struct Published;
 
 impl Protocol<Kept, Option<Told>> for Published {
@@ -18,21 +18,21 @@ impl Protocol<Kept, Option<Told>> for Published {
     ghost first = { None };
 }
 
-/// The writer shows a copy.
+/// The step in which the writer shows a copy.
 pub struct Puts;
 
 impl Outcome<Kept, Option<Told>> for Puts {
     ghost then = { λ v x y w. w ≡ Some y.front };
 }
 
-/// A reader takes the copy that is shown.
+/// The step in which a reader takes the copy that is shown.
 pub struct Enters;
 
 impl Outcome<Kept, Option<Told>> for Enters {
     ghost then = { λ v x y w. Sees v x w };
 }
 
-/// A new reader is told which list it is.
+/// The step in which a new reader is told which list is shown.
 pub struct Tells;
 
 impl Split<Option<Told>> for Tells {

@@ -1,4 +1,4 @@
-//! A new warehouse, with its writer and its desks.
+//! Opens a warehouse, with its writer and its desks.
 
 ghost use Rattle.std.specs.Prelude.{◌≡◌, ◌<◌, ◌≤◌, [], None, Some, IfOk, drop, length};
 ghost use Rattle.std.specs.List.{All};
@@ -7,7 +7,7 @@ ghost use Rattle.wh_store.specs.Windows.{Shows, current};
 ghost use Rattle.wh_store.specs.Ledgers.{ledger};
 ghost use Rattle.wh_desk.specs.Known.{IsStory};
 ghost use Rattle.wh_desk.specs.Desks.{sitting};
-ghost use Rattle.wh_desk.specs.Writers.{writing};
+ghost use Rattle.wh_desk.specs.Writers.{writing, written};
 
 use crate::chair::Chair;
 use crate::desk::Desk;
@@ -18,12 +18,12 @@ use crate::steps::{Raw, publish_raw, reader_of};
 use crate::writer::Writer;
 use std::alloc::Global;
 use std::sync::Wait;
-use wh_store::Store;
+use wh_store::{RefusedEnds, Store};
 
 /// The most desks that a warehouse has.
 pub const MAX_DESKS: usize = 16;
 
-/// Why no warehouse was opened. The store is gone.
+/// The reasons for which no warehouse is opened. The store is gone.
 #[derive(Clone, Copy, Debug, PartialEq, Eq)]
 pub enum OpenFault {
     /// Memory was refused.
@@ -40,7 +40,7 @@ fn seat_all(alloc: Global, raw: &mut Raw, desks: usize) -> Result<Vec<Desk>, Ope
 {
     let mut all = Vec::new(alloc);
     for _ in 0..desks {
-        let front = raw.published().front.again();
+        let front = raw.published().front.share();
         let Some(reader) = reader_of(raw) else {
             return Err(OpenFault::NotAvailable);
         };
@@ -58,8 +58,9 @@ fn seat_all(alloc: Global, raw: &mut Raw, desks: usize) -> Result<Vec<Desk>, Ope
     Ok(all)
 }
 
-/// A new warehouse over a store in which nothing was done yet, with so many desks. Nothing is published; all desks are the writer's own.
-/// The store is copied, in O(n w) time for n rows of w cells in all.
+/// Opens a warehouse over a store in which nothing was done yet, with so many desks. Nothing is published; all desks are the writer's own.
+/// Fails for want of memory, or where a desk's place could not be made. The store is then gone.
+/// Takes O(n w) time for n rows of w cells in all, since the store is copied.
 pub fn open_warehouse<R: Wait>(
     rt: &R,
     alloc: Global,
@@ -80,7 +81,9 @@ pub fn open_warehouse<R: Wait>(
     open_with_copy(rt, alloc, store, copy, desks)
 }
 
-/// As [`open_warehouse`], over a store and a second one that shows the same, so that a caller may fill both at once.
+/// Opens a warehouse over a store in which nothing was done yet and a second one that shows the same, with so many desks. So a caller may
+/// fill both stores at once.
+/// Fails for want of memory, or where a desk's place could not be made. Both stores are then gone.
 pub fn open_with_copy<R: Wait>(
     rt: &R,
     alloc: Global,
@@ -121,7 +124,11 @@ pub fn open_with_copy<R: Wait>(
                 held: None,
                 ends: None,
             };
-            Ok((Writer { inner }, all))
+            let writer = Writer {
+                inner,
+                refused_ends: RefusedEnds::none(),
+            };
+            Ok((writer, all))
         }
         Err(fault) => {
             raw.take(rt);

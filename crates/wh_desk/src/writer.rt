@@ -1,14 +1,14 @@
-//! The writer of a warehouse.
+//! Publishes a warehouse's operations, as its one writer.
 
 ghost use Rattle.std.specs.Prelude.{◌≡◌, ◌≢◌, ◌≤◌, ◌<◌, [], ◌∷◌, ◌++◌, None, Some, Ok, Err, length, is_some, nat_le, if◌then◌else◌, IfOk, IfErr, OnOk, OnErr, IsTrue, MatchBool, MatchOption, MatchResult};
 ghost use Rattle.wh_row.specs.Bag.{empty};
 ghost use Rattle.wh_store.specs.Operations.{operation};
 ghost use Rattle.wh_store.specs.Refusals.{refusal};
 ghost use Rattle.wh_store.specs.Versions.{is_active, is_well_formed, number, table_in};
-ghost use Rattle.wh_store.specs.Faults.{publish_refusal, refused, IsOkUnlessMemory, Ends, EndsLater};
+ghost use Rattle.wh_store.specs.Faults.{publish_refusal, refused, CountsRefusal, IsOkUnlessMemory, Ends, EndsLater};
 ghost use Rattle.wh_store.specs.Ledgers.{ledger, gone_out, versions_in};
 ghost use Rattle.wh_desk.specs.Known.{Begins, known};
-ghost use Rattle.wh_desk.specs.Writers.{published, waiting, writing, writing_of};
+ghost use Rattle.wh_desk.specs.Writers.{published, waiting, written, written_of};
 ghost use Rattle.wh_desk.specs.Inner.Writers.{IsWriter, end_of};
 
 use crate::history::Told;
@@ -19,23 +19,26 @@ use std::alloc::AllocError;
 use std::marker::Model;
 use std::sync::Wait;
 use wh_row::Bag;
-use wh_store::{Ended, Op, Publish, PublishFault, told_law, well_formed_goes_on_law, window_law};
+use wh_store::{
+    Ended, Op, Publish, PublishFault, RefusedEnds, told_law, well_formed_goes_on_law, window_law,
+};
 
-/// The writer of a warehouse. Seen as the warehouse, the list that it has published and the operation that it holds. It is not dropped:
-/// end it by [`Writer::end`].
+/// The writer of a warehouse, which is not dropped: end it by [`Writer::end`].
+/// It is seen as the warehouse, the list that it has published, the operation that it holds, and how many of its give-ups were refused.
 pub struct Writer {
     pub(crate) inner: Inner,
+    pub(crate) refused_ends: RefusedEnds,
 }
 
 impl Model for Writer {
-    ghost use Rattle.wh_desk.specs.Writers.{Writing, writing_of};
+    ghost use Rattle.wh_desk.specs.Writers.{Writing, writing, written_of};
     ghost use Rattle.wh_desk.specs.Inner.Writers.{IsWriter, coded_writing};
 
     ghost Value = { Writing };
 
     ghost coded = { coded_writing };
 
-    ghost view = { λ w. writing_of w.inner };
+    ghost view = { λ w. writing (written_of w.inner) w.refused_ends.count };
 
     ghost invariant = { λ w. IsWriter w.inner };
 }
@@ -56,7 +59,7 @@ fn end_of(op: &Op) -> Option<Ended>
 fn hand_over(inner: &mut Inner) -> Result<(), AllocError>
     requires { IsWriter inner.old }
     ensures writer { IsWriter inner.new }
-    ensures same { writing_of inner.new ≡ writing_of inner.old }
+    ensures same { written_of inner.new ≡ written_of inner.old }
     ensures over { OnOk result (inner.new.held ≡ None) }
 {
     if let Some(publication) = inner.held.take() {
@@ -83,7 +86,7 @@ fn publish_rest<R: Wait>(inner: &mut Inner, rt: &R) -> Result<(), AllocError>
     requires writer { IsWriter inner.old }
     requires none { inner.old.held ≡ None }
     ensures writer { IsWriter inner.new }
-    ensures list { MatchResult result (λ _. writing_of inner.new ≡ writing (writing_of inner.old).book (ledger (writing_of inner.old).ledger.of (gone_out (writing_of inner.old).ledger) None)) (λ _. writing_of inner.new ≡ writing_of inner.old) }
+    ensures list { MatchResult result (λ _. written_of inner.new ≡ written (written_of inner.old).book (ledger (written_of inner.old).ledger.of (gone_out (written_of inner.old).ledger) None)) (λ _. written_of inner.new ≡ written_of inner.old) }
 {
     window_law();
     well_formed_goes_on_law();
@@ -96,7 +99,7 @@ fn publish_rest<R: Wait>(inner: &mut Inner, rt: &R) -> Result<(), AllocError>
 fn publish_held<R: Wait>(inner: &mut Inner, rt: &R) -> Result<(), AllocError>
     requires { IsWriter inner.old }
     ensures writer { IsWriter inner.new }
-    ensures list { MatchResult result (λ _. writing_of inner.new ≡ writing (writing_of inner.old).book (ledger (writing_of inner.old).ledger.of (gone_out (writing_of inner.old).ledger) None)) (λ _. writing_of inner.new ≡ writing_of inner.old) }
+    ensures list { MatchResult result (λ _. written_of inner.new ≡ written (written_of inner.old).book (ledger (written_of inner.old).ledger.of (gone_out (written_of inner.old).ledger) None)) (λ _. written_of inner.new ≡ written_of inner.old) }
 {
     hand_over(inner)?;
     publish_rest(inner, rt)
@@ -108,7 +111,7 @@ fn hold(inner: &mut Inner, op: Op) -> bool
     requires none { waiting inner.old ≡ [] }
     requires free { refusal inner.old.raw.desk.shown.value.store (operation op) ≡ None }
     ensures writer { IsWriter inner.new }
-    ensures held { writing_of inner.new ≡ writing (writing_of inner.old).book (ledger (writing_of inner.old).ledger.of (writing_of inner.old).ledger.list (if result then Some (operation op) else None)) }
+    ensures held { written_of inner.new ≡ written (written_of inner.old).book (ledger (written_of inner.old).ledger.of (written_of inner.old).ledger.list (if result then Some (operation op) else None)) }
 {
     well_formed_goes_on_law();
     if !inner.history.add(&op) {
@@ -121,9 +124,11 @@ fn hold(inner: &mut Inner, op: Op) -> bool
 }
 
 impl Writer {
-    /// Publishes an operation. A refusal publishes nothing; the fault is [`PublishFault::Held`] or the first of a store's reasons.
+    /// Publishes an operation.
+    /// Fails with [`PublishFault::Held`], or else with the first of a store's reasons. A refusal publishes nothing.
     pub fn publish<R: Wait>(&mut self, rt: &R, op: Op) -> Result<(), PublishFault>
         ensures book { self.new.book ≡ self.old.book }
+        ensures refused_ends { self.new.refused_ends ≡ self.old.refused_ends }
         ensures ok { OnOk result (self.new.ledger ≡ ledger self.old.ledger.of (self.old.ledger.list ++ operation op ∷ []) None) }
         ensures err { IfErr result (λ fault. self.new.ledger ≡ refused self.old.ledger (operation op) fault) }
         ensures refused { MatchOption (publish_refusal self.old.ledger (operation op)) (IsOkUnlessMemory result) (λ fault. result ≡ Err fault) }
@@ -143,11 +148,26 @@ impl Writer {
         }
     }
 
-    /// Publishes what is held, and then gives up the night that is open, if one is. After want of memory, which is met only where there
-    /// is something to publish, what was held may have gone out, and the end of the night may be held.
-    #[tactic(auto, using(wh_store::proofs::Idle::idle_ends))]
+    /// Publishes what is held, and then gives up the night that is open, if one is.
+    /// Fails for want of memory, and only where there is something to publish. Then what was held may have gone out, and the end of the
+    /// night may be held.
     pub fn give_up<R: Wait>(&mut self, rt: &R) -> Result<Ended, AllocError>
         ensures book { self.new.book ≡ self.old.book }
+        ensures refused_ends { CountsRefusal result self.old.refused_ends self.new.refused_ends }
+        ensures ends { MatchResult result (Ends self.old.ledger self.new.ledger) (λ _. EndsLater self.old.ledger self.new.ledger) }
+    {
+        let result = self.end_night(rt);
+        if result.is_err() {
+            self.refused_ends = self.refused_ends.and_one();
+        }
+        result
+    }
+
+    /// Publishes what is held, and gives up the night that is open, if one is; a refusal is not counted yet.
+    #[tactic(auto, using(wh_store::proofs::Idle::idle_ends))]
+    fn end_night<R: Wait>(&mut self, rt: &R) -> Result<Ended, AllocError>
+        ensures book { self.new.book ≡ self.old.book }
+        ensures refused_ends { self.new.refused_ends ≡ self.old.refused_ends }
         ensures ends { MatchResult result (Ends self.old.ledger self.new.ledger) (λ _. EndsLater self.old.ledger self.new.ledger) }
     {
         if !self.held() && !self.active() {
@@ -164,14 +184,15 @@ impl Writer {
         Ok(ends.unwrap_or(Ended::NoneOpen))
     }
 
-    /// What is published.
+    /// Returns what is published.
     pub fn tell(&self) -> Told
         ensures { result ≡ published self.now }
     {
-        self.inner.raw.published().front.again()
+        self.inner.raw.published().front.share()
     }
 
-    /// Whether all that was told, or that a desk has seen, is published by this writer. Else all that it has published was told, and more.
+    /// Tells whether all that was told, or that a desk has seen, is published by this writer. Where it is not, all that the writer has
+    /// published was told, and more.
     pub fn has(&self, told: &Told) -> bool
         requires { told.now.book ≡ self.now.book }
         ensures begins { MatchBool result (Begins told.now (published self.now)) (Begins (published self.now) told.now) }
@@ -180,7 +201,7 @@ impl Writer {
         self.inner.raw.published().front.covers(told)
     }
 
-    /// The number of the current version.
+    /// Returns the number of the current version.
     pub fn current(&self) -> u64
         ensures number { result ≡ number (versions_in self.now.ledger.of self.now.ledger.list) }
         ensures well_formed { IsTrue (is_well_formed (length self.now.ledger.of.opening) self.now.ledger.list) }
@@ -188,21 +209,21 @@ impl Writer {
         self.inner.raw.published().store.number()
     }
 
-    /// Whether a night is open.
+    /// Tells whether a night is open.
     pub fn active(&self) -> bool
         ensures { result ≡ is_active (versions_in self.now.ledger.of self.now.ledger.list) }
     {
         self.inner.raw.published().store.is_active()
     }
 
-    /// Whether an operation is held.
+    /// Tells whether an operation is held.
     pub fn held(&self) -> bool
         ensures { result ≡ is_some self.now.ledger.held }
     {
         self.inner.held.is_some() || self.inner.raw.has_pending_operations()
     }
 
-    /// How many views there are: every version has a table for each.
+    /// Returns how many views there are: every version has a table for each.
     #[tactic(auto, using(wh_store::proofs::Views::newest_tables))]
     pub fn views(&self) -> usize
         ensures opening { result ≡ length self.now.ledger.of.opening }
@@ -212,7 +233,9 @@ impl Writer {
         self.inner.raw.published().store.current_views()
     }
 
-    /// The table of a view in the current version. Memory is wanted for its rows alone. Takes O(n w) time for the view's n rows of w cells.
+    /// Returns the table of a view in the current version.
+    /// Fails for want of memory, and only where the table has rows.
+    /// Takes O(n w) time for the view's n rows of w cells.
     pub fn table(&self, view: usize) -> Result<Bag, AllocError>
         requires { view < length (versions_in self.now.ledger.of self.now.ledger.list).newest }
         ensures table { IfOk result (λ table. table ≡ table_in (versions_in self.now.ledger.of self.now.ledger.list).newest view) }
@@ -222,9 +245,12 @@ impl Writer {
         self.inner.raw.published().store.table(view)
     }
 
-    /// Ends it, once each desk has left the store. What is held is dropped, and desks are answered `Away` from then on.
+    /// Ends the writer, once each desk has left the store. What is held is dropped, and desks are answered `Away` from then on.
     pub fn end<R: Wait>(self, rt: &R) {
-        let Writer { inner } = self;
+        let Writer {
+            inner,
+            refused_ends: _,
+        } = self;
         let Inner {
             raw,
             history: _history,
@@ -243,6 +269,8 @@ impl Publish for Writer {
     ghost Home = { Book };
 
     ghost home = { λ w. w.book };
+
+    ghost refused_ends = { λ w. w.refused_ends };
 
     fn publish<R: Wait>(&mut self, rt: &R, op: Op) -> Result<(), PublishFault> {
         Writer::publish(self, rt, op)

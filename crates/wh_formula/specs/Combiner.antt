@@ -7,7 +7,7 @@ pub record CombinerOf : Type 0 where
   pub expr : ExprTree
   pub width : ℕ
 
--- what it gives on a row of that width is the expression's value there
+-- what a closure gives on a row of that width is the expression's value there
 abbrev pub AnswersExpr : ExprTree → ℕ → (List ℤ → Option ℤ → Type 0) → Type 0
 AnswersExpr expr width gives =
     (row : List ℤ) (answer : Option ℤ) → length row ≡ width → gives row answer → answer ≡ value row expr

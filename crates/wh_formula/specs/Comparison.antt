@@ -13,7 +13,7 @@ compares LessOrEqual a b = int_le a b
 compares Greater a b = int_lt b a
 compares GreaterOrEqual a b = int_le b a
 
--- the same of two values; a missing one stands in no relation
+-- whether the left value stands in this relation to the right one; a missing value stands in no relation
 abbrev pub compares_values : Comparison → Option ℤ → Option ℤ → Bool
 compares_values op None right = false
 compares_values op (Some a) None = false

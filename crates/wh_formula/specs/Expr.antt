@@ -9,7 +9,7 @@ pub data ExprTree : Type 0 where
   Sub : ExprTree → ExprTree → ExprTree
   Mul : ExprTree → ExprTree → ExprTree
 
--- it is a sum, a difference or a product
+-- the expression is a sum, a difference or a product
 abbrev pub HasParts : ExprTree → Type 0
 HasParts (Column place) = ⊥
 HasParts (Number n) = ⊥
@@ -17,7 +17,7 @@ HasParts (Add a b) = Unit {0}
 HasParts (Sub a b) = Unit {0}
 HasParts (Mul a b) = Unit {0}
 
--- how many levels it has
+-- how many levels an expression has
 abbrev pub depth : ExprTree → ℕ
 depth (Column place) = 1
 depth (Number n) = 1
@@ -33,7 +33,7 @@ fits width (Add a b) = fits width a && fits width b
 fits width (Sub a b) = fits width a && fits width b
 fits width (Mul a b) = fits width a && fits width b
 
--- the number that it stands for, where a sum, a difference or a product may have any size
+-- the number that an expression stands for at a row, where a sum, a difference or a product may have any size
 abbrev pub number : List ℤ → ExprTree → ℤ
 number row (Column place) = slice_index_or row place (pos 0)
 number row (Number n) = n
@@ -53,6 +53,6 @@ stays_in_i64 row (Add a b) = stays_in_i64 row a && stays_in_i64 row b && is_i64 
 stays_in_i64 row (Sub a b) = stays_in_i64 row a && stays_in_i64 row b && is_i64 (number row (Sub a b))
 stays_in_i64 row (Mul a b) = stays_in_i64 row a && stays_in_i64 row b && is_i64 (number row (Mul a b))
 
--- its value at a row: that number, and none where any node leaves i64
+-- the value of an expression at a row: the number that it stands for, and none where that of any node leaves i64
 abbrev pub value : List ℤ → ExprTree → Option ℤ
 value row e = if stays_in_i64 row e then Some (number row e) else None

@@ -7,7 +7,7 @@ pub record FilterOf : Type 0 where
   pub pred : PredTree
   pub width : ℕ
 
--- what it gives on a row of that width is whether the row meets the test
+-- what a closure gives on a row of that width is whether the row meets the test
 abbrev pub AnswersPred : PredTree → ℕ → (List ℤ → Bool → Type 0) → Type 0
 AnswersPred pred width gives =
     (row : List ℤ) (answer : Bool) → length row ≡ width → gives row answer → answer ≡ holds row pred

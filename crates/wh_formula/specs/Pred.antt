@@ -29,7 +29,7 @@ abbrev pub HaveSome : PredTrees → Type 0
 HaveSome no_more = ⊥
 HaveSome (one_more p ps) = Unit {0}
 
--- it is made of other tests, or compares an expression that is made of others
+-- the test is made of other tests, or compares an expression that is made of others
 abbrev pub HasParts : PredTree → Type 0
 HasParts True = ⊥
 HasParts (Cmp op a b) = expr.HasParts a ⊎ expr.HasParts b
@@ -46,12 +46,12 @@ abbrev mutual
   holds row (AnyOf ps) = any_holds row ps
   holds row (Not p) = not (holds row p)
 
-  -- whether it meets all of them
+  -- whether a row meets all of these tests
   pub all_hold : List ℤ → PredTrees → Bool
   all_hold row no_more = true
   all_hold row (one_more p ps) = holds row p && all_hold row ps
 
-  -- whether it meets one of them
+  -- whether a row meets one of these tests
   pub any_holds : List ℤ → PredTrees → Bool
   any_holds row no_more = false
   any_holds row (one_more p ps) = holds row p || any_holds row ps
@@ -65,13 +65,13 @@ abbrev mutual
   fits width (AnyOf ps) = all_fit width ps
   fits width (Not p) = fits width p
 
-  -- each column of each of them does
+  -- each column of each of these tests lies in a row of that width
   pub all_fit : ℕ → PredTrees → Bool
   all_fit width no_more = true
   all_fit width (one_more p ps) = fits width p && all_fit width ps
 
 abbrev mutual
-  -- how many levels it has, those of its expressions among them
+  -- how many levels a test has, those of its expressions among them
   pub depth : PredTree → ℕ
   depth True = 1
   depth (Cmp op a b) = max (expr.depth a) (expr.depth b) + 1
@@ -79,7 +79,7 @@ abbrev mutual
   depth (AnyOf ps) = most_levels ps + 1
   depth (Not p) = depth p + 1
 
-  -- how many the deepest of them has
+  -- how many levels the deepest of these tests has
   pub most_levels : PredTrees → ℕ
   most_levels no_more = 0
   most_levels (one_more p ps) = max (depth p) (most_levels ps)

@@ -1,4 +1,4 @@
-//! A stored closure that answers an expression.
+//! A stored closure that answers an expression, so that a row's number is made without walking through the expression's tree.
 ghost use Rattle.std.specs.Prelude.{◌≡◌, length, IsTrue};
 ghost use Rattle.wh_formula.specs.Expr.{fits, value};
 ghost use Rattle.wh_formula.specs.Native.{CallableOnRows};
@@ -44,7 +44,7 @@ impl<G: RowValue> Combiner<G> {
         Combiner { expr, width, call }
     }
 
-    /// The expression's value at a row, by the closure alone.
+    /// Returns the expression's value at a row, by the closure alone; `None` where a sum, a difference or a product leaves `i64`.
     pub fn combine(&self, row: &[i64]) -> Option<i64>
         requires { length row.now ≡ self.now.width }
         ensures { result ≡ value row.now self.now.expr }
@@ -52,7 +52,7 @@ impl<G: RowValue> Combiner<G> {
         self.call.number(row)
     }
 
-    /// The expression that the closure answers; each of its columns lies in a row of the width.
+    /// Returns the expression that the closure answers. Each of its columns lies in a row of the width.
     pub fn expr(&self) -> &Expr
         ensures expr { result.now ≡ self.now.expr }
         ensures fits { IsTrue (fits self.now.width self.now.expr) }
@@ -60,7 +60,7 @@ impl<G: RowValue> Combiner<G> {
         &self.expr
     }
 
-    /// How many cells the rows have.
+    /// Returns how many cells the rows have.
     pub fn width(&self) -> usize
         ensures { result ≡ self.now.width }
     {

@@ -1,4 +1,4 @@
-//! The six comparisons of two numbers.
+//! The six comparisons of two numbers, of which tests are made.
 ghost use Rattle.std.specs.Prelude.{◌≡◌};
 ghost use Rattle.wh_formula.specs.Comparison.{compares, compares_values};
 
@@ -20,7 +20,7 @@ pub enum Comparison {
 }
 
 impl Comparison {
-    /// Whether the left number stands in this relation to the right one.
+    /// Returns whether the left number stands in this relation to the right one.
     pub fn compares(self, left: i64, right: i64) -> bool
         ensures { result ≡ compares self left right }
     {

@@ -19,7 +19,7 @@ fn asked<T: RowTest + Drop>(call: T, row: &[i64]) -> bool
     Filter::new(positive, 1, call).accepts(row)
 }
 
-/// Whether the only cell of the row is positive, by a stored closure.
+/// Returns whether the only cell of the row is positive, by a stored closure.
 pub fn is_positive(row: &[i64]) -> bool
     requires { length row.now ≡ 1 }
     ensures { result ≡ holds row.now (Cmp Greater (Column 0) (Number (pos 0))) }

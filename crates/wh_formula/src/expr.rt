@@ -1,4 +1,4 @@
-//! Expressions over the cells of a row.
+//! Expressions over the cells of a row, whose depth is bounded by their type.
 ghost use Rattle.std.specs.Prelude.{◌≡◌, ◌<◌, ◌≤◌, length, IsTrue, IfOk, OnErr};
 ghost use Rattle.wh_formula.specs.Expr.{Column, Number, Add, Sub, Mul, HasParts, depth, fits, value};
 
@@ -48,7 +48,7 @@ impl Model for Expr {
 }
 
 impl Expr {
-    /// The cell at a place of the row.
+    /// Makes the expression that is the cell at a place of the row, from 0.
     pub fn column(place: usize) -> Expr
         ensures { result ≡ Column place }
     {
@@ -57,7 +57,7 @@ impl Expr {
         }
     }
 
-    /// A constant.
+    /// Makes the expression that is a constant.
     pub fn number(number: i64) -> Expr
         ensures { result ≡ Number number }
     {
@@ -66,7 +66,7 @@ impl Expr {
         }
     }
 
-    /// The sum of two expressions.
+    /// Makes the sum of two expressions. Memory is wanted for the boxes of both.
     pub fn add(alloc: Global, left: Expr, right: Expr) -> Result<Expr, AllocError>
         requires left { depth left < MAX_DEPTH }
         requires right { depth right < MAX_DEPTH }
@@ -78,7 +78,7 @@ impl Expr {
         })
     }
 
-    /// The left expression less the right one.
+    /// Makes the difference of two expressions: the left one less the right one. Memory is wanted for the boxes of both.
     pub fn sub(alloc: Global, left: Expr, right: Expr) -> Result<Expr, AllocError>
         requires left { depth left < MAX_DEPTH }
         requires right { depth right < MAX_DEPTH }
@@ -90,7 +90,7 @@ impl Expr {
         })
     }
 
-    /// The product of two expressions.
+    /// Makes the product of two expressions. Memory is wanted for the boxes of both.
     pub fn mul(alloc: Global, left: Expr, right: Expr) -> Result<Expr, AllocError>
         requires left { depth left < MAX_DEPTH }
         requires right { depth right < MAX_DEPTH }
@@ -102,7 +102,7 @@ impl Expr {
         })
     }
 
-    /// How many levels it has: one more than its deepest part. Takes O(n) for n parts.
+    /// Returns how many levels the expression has: one more than its deepest part. Takes O(n) for n parts.
     pub fn depth(&self) -> usize
         ensures value { result ≡ depth self.now }
         ensures within { result ≤ MAX_DEPTH }
@@ -114,7 +114,7 @@ impl Expr {
         }
     }
 
-    /// Each column lies in a row of that width. Takes O(n) for n parts.
+    /// Returns whether each column lies in a row of that width. Takes O(n) for n parts.
     pub fn fits(&self, width: usize) -> bool
         ensures { result ≡ fits width self.now }
     {
@@ -126,8 +126,7 @@ impl Expr {
         }
     }
 
-    /// The value at a row; `None` where a sum, a difference or a product leaves `i64`. Takes O(n)
-    /// for n parts.
+    /// Returns the value at a row; `None` where a sum, a difference or a product leaves `i64`. Takes O(n) for n parts.
     pub fn value(&self, row: &[i64]) -> Option<i64>
         requires { IsTrue (fits (length row.now) self.now) }
         ensures { result ≡ value row.now self.now }
@@ -141,8 +140,7 @@ impl Expr {
         }
     }
 
-    /// Another expression of the same form. A column and a constant take no memory. Takes O(n) for
-    /// n parts.
+    /// Makes another expression of the same form. A column and a constant take no memory. Takes O(n) for n parts.
     pub fn copy(&self, alloc: Global) -> Result<Expr, AllocError>
         ensures copy { IfOk result (λ copy. copy ≡ self.now) }
         ensures memory { OnErr result (HasParts self.now) }
@@ -157,7 +155,7 @@ impl Expr {
     }
 }
 
-/// Both sides of an operation, each in its box.
+/// Puts both sides of an operation into boxes.
 fn boxed(alloc: Global, left: Expr, right: Expr) -> Result<(Box<Expr>, Box<Expr>), AllocError>
     ensures { IfOk result (λ sides. (sides.0.value ≡ left) × (sides.1.value ≡ right)) }
 {

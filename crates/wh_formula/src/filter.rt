@@ -1,4 +1,4 @@
-//! A stored closure that answers a test.
+//! A stored closure that answers a test, so that a row is tested without walking through the test's tree.
 ghost use Rattle.std.specs.Prelude.{◌≡◌, length, IsTrue};
 ghost use Rattle.wh_formula.specs.Pred.{fits, holds};
 ghost use Rattle.wh_formula.specs.Native.{CallableOnRows};
@@ -44,7 +44,7 @@ impl<F: RowTest> Filter<F> {
         Filter { pred, width, call }
     }
 
-    /// Whether a row passes, by the closure alone.
+    /// Returns whether a row passes, by the closure alone.
     pub fn accepts(&self, row: &[i64]) -> bool
         requires { length row.now ≡ self.now.width }
         ensures { result ≡ holds row.now self.now.pred }
@@ -52,7 +52,7 @@ impl<F: RowTest> Filter<F> {
         self.call.test(row)
     }
 
-    /// The test that the closure answers; each of its columns lies in a row of the width.
+    /// Returns the test that the closure answers. Each of its columns lies in a row of the width.
     pub fn pred(&self) -> &Pred
         ensures pred { result.now ≡ self.now.pred }
         ensures fits { IsTrue (fits self.now.width self.now.pred) }
@@ -60,7 +60,7 @@ impl<F: RowTest> Filter<F> {
         &self.pred
     }
 
-    /// How many cells the rows have.
+    /// Returns how many cells the rows have.
     pub fn width(&self) -> usize
         ensures { result ≡ self.now.width }
     {

@@ -1,4 +1,4 @@
-//! Tests of a row.
+//! Tests of a row, whose depth is bounded by their type.
 ghost use Rattle.std.specs.Prelude.{◌≡◌, ◌<◌, ◌≤◌, length, IsTrue, IfOk, OnErr, All};
 ghost use Rattle.wh_formula.specs.Expr as expr_tree;
 ghost use Rattle.wh_formula.specs.Pred.{True, Cmp, AllOf, AnyOf, Not, HasParts, HaveSome, parts_of, depth, fits, holds, most_levels, all_hold, any_holds, all_fit};
@@ -48,7 +48,7 @@ impl Model for Pred {
 }
 
 impl Pred {
-    /// The test that every row meets.
+    /// Makes the test that every row meets.
     pub fn always() -> Pred
         ensures { result ≡ True }
     {
@@ -57,7 +57,7 @@ impl Pred {
         }
     }
 
-    /// Compares the values of two expressions; a row where one has none does not meet it.
+    /// Makes the test that compares the values of two expressions. A row where one of them has no value does not meet it.
     pub fn compare(op: Comparison, left: Expr, right: Expr) -> Pred
         requires left { expr_tree.depth left < MAX_DEPTH }
         requires right { expr_tree.depth right < MAX_DEPTH }
@@ -68,7 +68,7 @@ impl Pred {
         }
     }
 
-    /// Holds where all parts hold, so also where there is none.
+    /// Makes the test that holds where all parts hold, so also where there is none.
     pub fn all(parts: Vec<Pred>) -> Pred
         requires { All (λ p. depth p < MAX_DEPTH) parts.items }
         ensures { result ≡ AllOf (parts_of parts.items) }
@@ -78,7 +78,7 @@ impl Pred {
         }
     }
 
-    /// Holds where some part holds, so nowhere where there is none.
+    /// Makes the test that holds where some part holds, so nowhere where there is none.
     pub fn any(parts: Vec<Pred>) -> Pred
         requires { All (λ p. depth p < MAX_DEPTH) parts.items }
         ensures { result ≡ AnyOf (parts_of parts.items) }
@@ -88,7 +88,7 @@ impl Pred {
         }
     }
 
-    /// Holds where the part does not.
+    /// Makes the test that holds where the part does not. Memory is wanted for the box of the part.
     pub fn not(alloc: Global, part: Pred) -> Result<Pred, AllocError>
         requires { depth part < MAX_DEPTH }
         ensures { IfOk result (λ p. p ≡ Not part) }
@@ -99,8 +99,8 @@ impl Pred {
         })
     }
 
-    /// How many levels it has: one more than its deepest part or expression. Takes O(n) for n
-    /// parts, those of its expressions included.
+    /// Returns how many levels the test has: one more than its deepest part or expression. Takes O(n) for n parts, those of its expressions
+    /// included.
     #[cycle(pred_depth)]
     pub fn depth(&self) -> usize
         ensures value { result ≡ depth self.now }
@@ -114,8 +114,7 @@ impl Pred {
         }
     }
 
-    /// Each column lies in a row of that width. Takes O(n) for n parts, those of its expressions
-    /// included.
+    /// Returns whether each column lies in a row of that width. Takes O(n) for n parts, those of its expressions included.
     #[cycle(pred_fits)]
     pub fn fits(&self, width: usize) -> bool
         ensures { result ≡ fits width self.now }
@@ -128,7 +127,7 @@ impl Pred {
         }
     }
 
-    /// Whether a row meets the test. Takes O(n) for n parts, those of its expressions included.
+    /// Returns whether a row meets the test. Takes O(n) for n parts, those of its expressions included.
     #[cycle(pred_holds)]
     pub fn holds(&self, row: &[i64]) -> bool
         requires { IsTrue (fits (length row.now) self.now) }
@@ -143,8 +142,8 @@ impl Pred {
         }
     }
 
-    /// Another test of the same form. It takes memory for the parts of tests and expressions alone.
-    /// Takes O(n) for n parts, those of its expressions included.
+    /// Makes another test of the same form. It takes memory for the parts of tests and expressions alone. Takes O(n) for n parts, those of
+    /// its expressions included.
     #[cycle(pred_copy)]
     pub fn copy(&self, alloc: Global) -> Result<Pred, AllocError>
         ensures copy { IfOk result (λ copy. copy ≡ self.now) }

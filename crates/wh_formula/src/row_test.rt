@@ -14,7 +14,7 @@ pub trait RowTest: Sync {
 
     ghost tests: { Self → List ℤ → Bool → Type 0 };
 
-    /// Whether the row passes.
+    /// Returns whether the row passes.
     fn test(&self, row: &[i64]) -> bool
         requires { can_test self.now row.now }
         ensures { tests self.now row.now result };

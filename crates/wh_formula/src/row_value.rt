@@ -14,7 +14,7 @@ pub trait RowValue: Sync {
 
     ghost combines: { Self → List ℤ → Option ℤ → Type 0 };
 
-    /// The row's number, if it has one.
+    /// Returns the row's number, if it has one.
     fn number(&self, row: &[i64]) -> Option<i64>
         requires { can_combine self.now row.now }
         ensures { combines self.now row.now result };

@@ -14,7 +14,7 @@ use Rattle.wh_headline.proofs.SeenAlike.{whole_list}
 -- ---- beginnings of lists
 
 -- a beginning of two lists, one behind the other, begins the first, or is the first and a beginning of the second
-splits : (seen rest a b : List Operation) → seen ++ rest ≡ a ++ b → IsPrefix seen a ⊎ ((t : List Operation) × (seen ≡ a ++ t) × IsPrefix t b)
+pub splits : (seen rest a b : List Operation) → seen ++ rest ≡ a ++ b → IsPrefix seen a ⊎ ((t : List Operation) × (seen ≡ a ++ t) × IsPrefix t b)
 splits seen rest [] b e = inr (seen, refl, (rest, e))
 splits [] rest (x ∷ a) b e = inl (x ∷ a, refl)
 splits (y ∷ seen) rest (x ∷ a) b e =
@@ -32,7 +32,7 @@ before_last (y ∷ seen) rest (x ∷ a) last e =
     let tails : seen ++ rest ≡ a ++ last ∷ [] = cc e in
     ⊎_elim (λ p. inl (p.0, cc (heads, p.1))) (λ q. inr (cc (heads, q))) (before_last seen rest a last tails)
 
-empty : (seen rest : List Operation) → seen ++ rest ≡ [] → seen ≡ []
+pub empty : (seen rest : List Operation) → seen ++ rest ≡ [] → seen ≡ []
 empty [] rest e = refl
 empty (x ∷ seen) rest e = cc
 
@@ -46,7 +46,7 @@ headed n op ops b = sym (first _ (ops ++ b.rest) b.begins)
     first a c e = cc
 
 module _ (n : Night) (seen : List Operation) where
-  shorter : (ops : List Operation) → IsPrefix seen ops → Begin_it n ops → Begin_it n seen
+  pub shorter : (ops : List Operation) → IsPrefix seen ops → Begin_it n ops → Begin_it n seen
   shorter ops p b = record {
     place = b.place;
     within = b.within;
@@ -60,7 +60,7 @@ module _ (n : Night) (seen : List Operation) where
       ⊎_elim (λ q. inl (shorter ops q b)) (λ e. inr (e ∙ sym is)) (before_last seen p.0 ops end (p.1 ∙ is))
 
   -- of a night that ended: one without its end, or the whole
-  of_ended : (last : List Operation) → HasEnded n last → IsPrefix seen last → Begin_it n seen ⊎ (seen ≡ last)
+  pub of_ended : (last : List Operation) → HasEnded n last → IsPrefix seen last → Begin_it n seen ⊎ (seen ≡ last)
   of_ended last ended p =
       ⊎_elim
       (λ whole. before_end (out_below n (length n.list)) last Commits (all_begins whole.0) (whole_list n last whole.0 whole.1.night_list) p)

@@ -15,8 +15,8 @@ use Rattle.wh_carry.specs.Night.{Night, AreAllowed}
 use Rattle.wh_carry.proofs.NewValues.{passed_have_values}
 use Rattle.wh_night.specs.Tonight.{Begin_it, HasStopped, IsNext, IsOpen, Leaves, goes_out, newest_in, out_below, tonight, nothing, put, commit, give_up}
 use Rattle.wh_night.specs.declared.cause.NightCause.{NightCause}
-use Rattle.wh_night.specs.declared.left.Left.{Left}
-use Rattle.wh_night.specs.declared.left.Left.TheVariants.{Untouched, GivenUp, StillOpen}
+use Rattle.wh_night.specs.declared.left.Aftermath.{Aftermath}
+use Rattle.wh_night.specs.declared.left.Aftermath.TheVariants.{Untouched, GivenUp, StillOpen}
 use Rattle.wh_core.proofs.Underway.{versions_from-append}
 use Rattle.wh_core.specs.Nights.{GivenNight, Setup}
 use Rattle.wh_headline.specs.RunningNights.{AreEndedNights, GoesOnAs, AreRunningNights, CanBegin, ComesNext, GoOn, HasEnded, NightsGoOn, night_after, one_more}
@@ -79,7 +79,7 @@ module _ (s : Setup) (n keys : ℕ) (given : GivenNight) (l m : Ledger) (next : 
   open_so : (ops : List Operation) → AreAllowed night → Begin_it night ops → AreRunningNights s n false (l.list ++ ops) ⊎ AreRunningNights s (n + 1) true (l.list ++ ops)
   open_so ops allowed begins = begun_behind s n keys l.list ops next.ended (can allowed) (subst (λ k. Begin_it k ops) same_night begins)
 
-  left : (cause : NightCause) (how : Left) → Leaves night cause l how m → GoesOnAs s n l how m
+  left : (cause : NightCause) (how : Aftermath) → Leaves night cause l how m → GoesOnAs s n l how m
   left cause Untouched same = same
   left cause GivenUp is = ended (is.ops ++ Gives_up ∷ []) is.stopped.allowed (inr is.cut) (ap (λ (x : Ledger). x.list) is.now)
   left cause StillOpen is =

@@ -8,3 +8,12 @@ mod SeenAlike
 mod Logs
 mod Beginnings
 mod GoOn
+mod Going
+mod ToTheEnd
+mod Working
+mod Ending
+mod Growing
+mod Calls
+mod OneRun
+mod Rounds
+mod WithReaders

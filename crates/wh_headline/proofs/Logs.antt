@@ -2,7 +2,6 @@
 use Rattle.std.proofs.Common.{◌≡◌, ◌≢◌, refl, sym, ap, ◌∙◌, subst, ℕ, ◌+◌, ◌-◌, ◌<◌, ◌≤◌, ◌^◌, List, [], ◌∷◌, ◌++◌, length, Bool, true, false, arith, cond, Option, Some, None, ◌⊎◌, ⊎_elim, inl, inr}
 use Rattle.std.specs.Prelude.{nat_le, nat_lt, option_map, slice_index_or}
 use Rattle.std.proofs.lemmas.Bool.{and_parts, cases_lt, le-leb, leb-true}
-use Rattle.std.proofs.lemmas.List.{append_assoc}
 use Rattle.std.proofs.lemmas.Option.{same_Some}
 use Rattle.wh_carry.specs.NightList.{IsCutNight}
 use Rattle.wh_carry.specs.Refused.{ArePassedBelow}
@@ -12,19 +11,23 @@ use Rattle.wh_store.specs.Pages.{Contents, page_of}
 use Rattle.wh_store.specs.Versions.{Versions, is_active, kept_count, number, opened, table_in, version, versions_from, versions_of}
 use Rattle.wh_carry.specs.Night.{Night, AreAllowed}
 use mathlib.Core.List.{IsPrefix}
-use Rattle.wh_desk.specs.Desks.{Grows, IsPage, SeenVersionsStay, Sitting, versions_seen}
+use Rattle.wh_desk.specs.Askers.{IsHad}
+use Rattle.wh_desk.specs.Desks.{Grows, SeenVersionsStay, Sitting, versions_seen}
+use Rattle.wh_desk.specs.Inner.Desks.{IsPage}
+use Rattle.wh_desk.proofs.Answering.{by_parts}
 use Rattle.wh_desk.specs.Writers.{Writing}
 use Rattle.wh_desk.proofs.Telling.{grows_on}
 use Rattle.wh_store.specs.Ledgers.{Warehouse}
+use Rattle.wh_store.specs.Readers.{Bookmark, bookmark_after}
 use Rattle.wh_night.specs.Tonight.{Begin_it, IsWhole}
 use Rattle.wh_core.specs.Laws.{IsSetup}
-use Rattle.wh_core.specs.Log.{Bookmark, Log, SessionOf, Began, Gave_up, bookmark_after, nights_begun, session}
+use Rattle.wh_core.specs.Log.{Log, SessionOf, Began, Gave_up, nights_begun, session}
 use Rattle.wh_core.specs.Nights.{Setup, next_night, night_from, versions}
 use Rattle.wh_core.specs.Replies.{nothing}
 use Rattle.wh_core.proofs.NightLogs.{IsOneMore, cut_night, night_ops, open_night, whole_night}
 use Rattle.wh_core.proofs.Underway.{versions_from-append}
 use Rattle.wh_headline.specs.Alike.{AreAlike, AreSeenAlike}
-use Rattle.wh_headline.specs.RunningNights.{AreEndedNights, AreRunningNights, AreSeats, CanBegin, DesksBesideNightsAnswerAsTheMachine, DesksThatLagAnswerAsTheMachine, HasEnded, HaveSeats, IsAnsweredFrom, IsHad, IsLogOf, IsSeat, RunningNightsHaveALog, WasLeft, all_ended, night_after, none as no_nights, one_more as one_night_more, one_open, set_up_warehouse}
+use Rattle.wh_headline.specs.RunningNights.{AreEndedNights, AreRunningNights, AreSeats, CanBegin, DesksBesideNightsAnswerAsTheMachine, DesksThatLagAnswerAsTheMachine, HasEnded, HaveSeats, IsAnsweredFrom, IsLogOf, IsSeat, RunningNightsHaveALog, WasLeft, all_ended, night_after, none as no_nights, one_more as one_night_more, one_open, set_up_warehouse}
 use Rattle.wh_headline.proofs.Answered.{answered}
 use Rattle.wh_headline.proofs.Beginnings.{beginnings}
 use Rattle.wh_headline.proofs.PageSizes.{any_pages}
@@ -265,7 +268,7 @@ module _ (stay : SeenVersionsStay) (s : Setup) (ops : List Operation) (mark : Op
   left_in v at sits stands =
       let g = is.reader.stands at stands in
       let same : g.reads.0 ≡ v = same_Some g.reads.0 v (sym g.reads.1.2 ∙ sym g.same_version ∙ sits) in
-      let page : IsPage g.given v at.view g.row g.limit g.page = subst (λ k. IsPage g.given k at.view g.row g.limit g.page) same g.reads.2 in
+      let page : IsPage g.given v at.view g.row g.limit g.page = subst (λ k. IsPage g.given k at.view g.row g.limit g.page) same (by_parts g.given g.reads.0 at.view g.row g.limit g.page g.reads.2) in
       let current : ℕ = number (versions_seen g.given) in
       let there : v ≤ current = leb-true v current (and_parts (nat_le v current) (nat_lt current (v + kept_count g.given.of.limit (is_active (versions_seen g.given)))) page.0).0 in
       let on = grows_on g.given before after g.grows is.grows in
@@ -313,9 +316,6 @@ desks_at stay seen_stay s nights active ops marks before after setup some are de
 
 -- ---- desks of a writer
 
-begins_on : (xs ys zs : List Operation) → IsPrefix xs ys → IsPrefix ys zs → IsPrefix xs zs
-begins_on xs ys zs p q = (p.0 ++ q.0, sym (append_assoc xs p.0 q.0) ∙ (ap (λ ws. ws ++ q.0) p.1 ∙ q.1))
-
 -- of two lists that begin one another each is the whole of the other
 same_list : (xs ys : List Operation) → IsPrefix xs ys → IsPrefix ys xs → xs ≡ ys
 same_list [] [] p q = refl
@@ -326,11 +326,11 @@ same_list (x ∷ xs) (y ∷ ys) p q =
     cc (p.1, rest)
 
 -- what a desk saw begins what the writer has
-had_list : (w : Writing) (here : Sitting) → IsHad w here → IsPrefix here.list w.ledger.list
-had_list w here is = begins_on here.list is.later.list w.ledger.list is.grows.2 is.has.2
+pub had_list : (w : Writing) (here : Sitting) → IsHad w here → IsPrefix here.list w.ledger.list
+had_list w here is = is.2
 
-had_of : (s : Setup) (w : Writing) (here : Sitting) → w.ledger.of ≡ set_up_warehouse s → IsHad w here → here.of ≡ set_up_warehouse s
-had_of s w here of is = sym is.grows.1 ∙ (is.has.1 ∙ of)
+pub had_of : (s : Setup) (w : Writing) (here : Sitting) → w.ledger.of ≡ set_up_warehouse s → IsHad w here → here.of ≡ set_up_warehouse s
+had_of s w here of is = is.1 ∙ of
 
 pub desks_beside : VersionsStay → SeenVersionsStay → DesksBesideNightsAnswerAsTheMachine
 desks_beside stay seen_stay s nights active w marks before after setup some of are desks =

@@ -5,9 +5,9 @@ use Rattle.std.proofs.lemmas.List.{append-nil}
 use Rattle.std.proofs.lemmas.Option.{same_Some}
 use Rattle.wh_row.specs.Row.{Row}
 use Rattle.wh_store.specs.Pages.{Shown}
+use Rattle.wh_store.specs.Readers.{Bookmark, bookmark_after}
 use Rattle.wh_desk.specs.Desks.{Grows, OpensAt, Reads, Sitting}
 use Rattle.wh_desk.proofs.Telling.{grows_on}
-use Rattle.wh_core.specs.Log.{Bookmark, bookmark_after}
 use Rattle.wh_headline.specs.RunningNights.{IsServed, comes, opens, reads, stays, turns_back}
 
 -- the desk was given this page of a view in a session of the version that its session has, and the page left this bookmark

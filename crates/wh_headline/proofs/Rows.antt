@@ -14,7 +14,7 @@ use Rattle.wh_row.specs.Row.{Row, row_cmp, AreRising}
 use Rattle.wh_row.specs.Weigh.{Counted}
 use Rattle.wh_row.proofs.BagLaws.{rows_total, rising-written}
 use Rattle.wh_store.specs.Pages.{is_after, page_of, rows_after}
-use Rattle.wh_core.specs.Log.{Bookmark, bookmark_after}
+use Rattle.wh_store.specs.Readers.{Bookmark, bookmark_after}
 
 abbrev rows_in : Counted → List Row
 rows_in es = map {A = Row × ℤ} {B = Row} (λ e. e.0) es

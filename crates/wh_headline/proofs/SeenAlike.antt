@@ -1,5 +1,5 @@
 -- Versions that readers see alike, and what a night makes of them.
-use Rattle.std.proofs.Common.{◌≡◌, refl, ap, ◌∙◌, subst, ℕ, suc, ◌+◌, List, [], ◌∷◌, ◌++◌, length, arith, Option, Some, None}
+use Rattle.std.proofs.Common.{◌≡◌, refl, sym, ap, ◌∙◌, subst, ℕ, suc, ◌+◌, List, [], ◌∷◌, ◌++◌, length, false, arith, Option, Some, None}
 use Rattle.std.specs.Prelude.{is_some, map, option_map, take}
 use Rattle.wh_row.specs.Bag.{Bag}
 use Rattle.wh_row.specs.Weigh.{Counted}
@@ -15,9 +15,10 @@ use Rattle.wh_carry.specs.NightList.{IsBeginning, IsCutNight, IsNightList, inst_
 use Rattle.wh_carry.specs.Refused.{ArePassedBelow}
 use Rattle.wh_carry.proofs.NewValues.{passed_have_values}
 use Rattle.wh_carry.proofs.Prefixes.{place_within, take_whole}
+use Rattle.wh_carry.specs.Legs.{Leg, Wave, Page}
 use Rattle.wh_carry.specs.Night.{Night}
 use Rattle.wh_core.proofs.NightLogs.{night_ops}
-use Rattle.wh_core.proofs.Underway.{versions_from-append}
+use Rattle.wh_core.proofs.Underway.{ops_of, versions_from-append}
 use Rattle.wh_headline.specs.Alike.{AreSeenAlike}
 
 pub same_alike : (v w : Versions) → v ≡ w → AreSeenAlike v w
@@ -26,6 +27,9 @@ same_alike v w e = record { newest = ap (λ (x : Versions). x.newest) e; older =
 pub alike_then : (u v w : Versions) → AreSeenAlike u v → AreSeenAlike v w → AreSeenAlike u w
 alike_then u v w a b = record { newest = a.newest ∙ b.newest; older = a.older ∙ b.older; active = a.active ∙ b.active }
 
+pub alike_back : (v w : Versions) → AreSeenAlike v w → AreSeenAlike w v
+alike_back v w a = record { newest = sym a.newest; older = sym a.older; active = sym a.active }
+
 pub number_alike : (v w : Versions) → AreSeenAlike v w → number v ≡ number w
 number_alike v w a = ap length a.older
 
@@ -33,7 +37,7 @@ number_alike v w a = ap length a.older
 pub opened_alike : (v w : Versions) → AreSeenAlike v w → after v Opens ≡ after w Opens
 opened_alike v w a = λ i. record { newest = a.newest i; older = a.older i; draft = Some (a.newest i) }
 
-given_up_alike : (v w : Versions) → AreSeenAlike v w → AreSeenAlike (after v Gives_up) (after w Gives_up)
+pub given_up_alike : (v w : Versions) → AreSeenAlike v w → AreSeenAlike (after v Gives_up) (after w Gives_up)
 given_up_alike v w a = record { newest = a.newest; older = λ i. a.newest i ∷ a.older i; active = refl }
 
 -- ---- puts
@@ -79,6 +83,16 @@ puts_alike v (Writes view rows ∷ ops) h =
     alike_then (versions_from next ops) next v (puts_alike next ops h) (record { newest = refl; older = refl; active = still_active view rows v.draft })
 puts_alike v (Commits ∷ ops) h = absurd h
 puts_alike v (Gives_up ∷ ops) h = absurd h
+
+legs_put : (legs : List Leg) → ArePuts (ops_of legs)
+unfolding ArePuts
+legs_put [] = tt
+legs_put (Wave place jobs ∷ legs) = legs_put legs
+legs_put (Page place view rows ∷ legs) = legs_put legs
+
+-- so no reader sees the pages of a night's legs
+pub legs_alike : (v : Versions) (legs : List Leg) → AreSeenAlike (versions_from v (ops_of legs)) v
+legs_alike v legs = puts_alike v (ops_of legs) (legs_put legs)
 
 -- ---- a beginning of a night
 
@@ -131,3 +145,7 @@ whole_number n v =
     let written : Versions = versions_from (after v Opens) puts in
     let same : number written ≡ number v = number_alike written (after v Opens) (puts_alike (after v Opens) puts (puts_are_puts (graph_of n.catalog) n.changes n.keys n.list (at_first n.tables))) in
     ap number (versions_from-append (after v Opens) puts (Commits ∷ [])) ∙ (let one : suc (number written) ≡ number v + 1 = omega (arith, same) in one)
+
+-- no night is open behind one that has ended
+pub whole_ends : (n : Night) (v : Versions) → is_active (versions_from v (night_ops n)) ≡ false
+whole_ends n v = ap is_active (versions_from-append (after v Opens) (puts_of (graph_of n.catalog) n.changes n.keys n.list (at_first n.tables)) (Commits ∷ []))

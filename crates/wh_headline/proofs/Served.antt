@@ -9,13 +9,14 @@ use Rattle.wh_row.specs.Weigh.{Counted}
 use Rattle.wh_store.specs.Operations.{Operation}
 use Rattle.wh_store.specs.Pages.{Contents, Shown, page_of, rows_after}
 use Rattle.wh_store.specs.Versions.{Versions, is_active, is_unexpired, kept_count, number, table_in, version, versions_of}
+use Rattle.wh_store.specs.Readers.{Bookmark, bookmark_after, goes_on}
 use Rattle.wh_core.specs.declared.event.Event.TheVariants as event
 use Rattle.wh_core.specs.declared.reply.Cause.TheVariants as cause
 use Rattle.wh_core.specs.declared.reply.Reply.TheVariants as reply
 use Rattle.wh_core.specs.Laws.{IsSetup}
-use Rattle.wh_core.specs.Log.{Bookmark, Log, SessionOf, Sat_down, Turned, bookmark_after, is_open, nights_begun, session}
+use Rattle.wh_core.specs.Log.{Log, SessionOf, Sat_down, Turned, is_open, nights_begun, session}
 use Rattle.wh_core.specs.Nights.{Setup, published, versions}
-use Rattle.wh_core.specs.Replies.{IsLegalLog, IsReply, goes_on, more}
+use Rattle.wh_core.specs.Replies.{IsLegalLog, IsReply, more}
 use Rattle.wh_core.proofs.Steps.{le_false, le_true, lt_true, onward}
 use Rattle.wh_headline.specs.Alike.{row_read}
 use Rattle.wh_headline.specs.RunningNights.{IsSeat}
@@ -42,7 +43,7 @@ serves_then s log d seat next later last a b = record {
 }
 
 -- the version that is current can be read
-readable : (k : ℕ) (v : Versions) → 2 ≤ k → is_unexpired k v (number v) ≡ true
+readable : (k : ℕ) (v : Versions) → 2 ≤ k → is_unexpired k (number v) (is_active v) (number v) ≡ true
 readable k v two =
     λ i. le_true (number v) (number v) (omega arith) i && lt_true (number v) (number v + kept_count k (is_active v)) (one_more (kept_count k (is_active v)) (one_kept (is_active v))) i
   where
@@ -101,7 +102,7 @@ module _ (s : Setup) (setup : IsSetup s) (d : ℕ) (inside : d < s.desks) where
         let said : IsReply s log (event.Read d view 1) (reply.Page page) =
         onward (nat_le s.desks d) cause.NoDesk _ (reply.Page page) (le_false s.desks d inside)
         (pages s.versions (versions s log) view 1 v (session log d) page (omega arith) (omega arith) (sym (ap (option_map (λ (o : SessionOf). o.version)) sat))
-        (subst (λ k. is_unexpired s.versions (versions s log) k ≡ true) (sym now.current) (readable s.versions (versions s log) setup.versions))
+        (subst (λ k. is_unexpired s.versions (number (versions s log)) (is_active (versions s log)) k ≡ true) (sym now.current) (readable s.versions (versions s log) setup.versions))
         (subst (λ (c : Contents). view < length c) (sym now.are) there)
         (λ i. page_of (table_in (sym now.are i) view) (row_read view (sym sat i)) 1)) in
         record {

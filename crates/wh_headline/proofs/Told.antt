@@ -7,7 +7,9 @@ use Rattle.wh_store.specs.Pages.{Contents, page_of}
 use Rattle.wh_store.specs.Versions.{is_active, kept_count, number, table_in, version}
 use Rattle.wh_store.specs.Ledgers.{versions_in}
 use Rattle.wh_desk.specs.Known.{known}
-use Rattle.wh_desk.specs.Desks.{Grows, IsPage, SeenVersionsStay, Sitting, sitting, versions_seen}
+use Rattle.wh_desk.specs.Desks.{Grows, SeenVersionsStay, Sitting, sitting, versions_seen}
+use Rattle.wh_desk.specs.Inner.Desks.{IsPage}
+use Rattle.wh_desk.proofs.Answering.{by_parts}
 use Rattle.wh_headline.specs.Told.{ToldPagesAreOfContents}
 
 pub told_pages : SeenVersionsStay → ToldPagesAreOfContents
@@ -15,7 +17,7 @@ told_pages stay catalog l before after told v view limit row page sound least se
     let writer : Sitting = sitting (known told.book l.of l.list) None in
     let on : Grows writer told = (refl, sym was.0, was.1) in
     let same : reads.0 ≡ v = same_Some reads.0 v (sym reads.1.1 ∙ session) in
-    let at : IsPage after v view row limit page = subst (λ k. IsPage after k view row limit page) same reads.2 in
+    let at : IsPage after v view row limit page = subst (λ k. IsPage after k view row limit page) same (by_parts after reads.0 view row limit page reads.2) in
     let current : ℕ = number (versions_seen after) in
     let there : v ≤ current = leb-true v current (and_parts (nat_le v current) (nat_lt current (v + kept_count after.of.limit (is_active (versions_seen after)))) at.0).0 in
     let now : version (versions_seen after) v ≡ version (versions_in l.of l.list) v = sym (stay after told v grows there).1 ∙ (stay writer told v on least).1 in

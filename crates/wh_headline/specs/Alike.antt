@@ -3,6 +3,7 @@ use Rattle.std.specs.Prelude.{◌≡◌, ℕ, Bool, ◌<◌, ◌≤◌, Option, 
 use Rattle.wh_row.specs.Row.{Row}
 use Rattle.wh_store.specs.Pages.{Shown}
 use Rattle.wh_store.specs.Versions.{Versions, is_active}
+use Rattle.wh_store.specs.Readers.{goes_on}
 use Rattle.wh_desk.specs.Desks.{Sitting, NotOpened, NotRead, OpensAt, Reads, versions_seen}
 use Rattle.wh_desk.specs.declared.chair.DeskFault.TheVariants.{NoSession, SessionOpen, Expired, NoView}
 use Rattle.wh_core.specs.declared.event.Event.TheVariants.{Open, Read}
@@ -10,7 +11,7 @@ use Rattle.wh_core.specs.declared.reply.Cause.TheVariants as cause
 use Rattle.wh_core.specs.declared.reply.Reply.TheVariants as reply
 use Rattle.wh_core.specs.Log.{Log, SessionOf, session}
 use Rattle.wh_core.specs.Nights.{Setup, versions}
-use Rattle.wh_core.specs.Replies.{IsReply, goes_on}
+use Rattle.wh_core.specs.Replies.{IsReply}
 
 -- the row after which a Read of this view goes on, in a session of a log
 abbrev pub row_read : ℕ → Option SessionOf → Option Row
@@ -37,10 +38,10 @@ pub record IsAnsweredAlike (s : Setup) (log : Log) (d : ℕ) (before after : Sit
   pub open_already : NotOpened before after SessionOpen → IsReply s log (Open d) (reply.Refused cause.SessionOpen)
   pub reads : (view limit : ℕ) (page : Shown) → 1 ≤ limit → limit ≤ 256 → Reads before after view (row_read view (session log d)) limit page
       → IsReply s log (Read d view limit) (reply.Page page)
-  pub expired : (view limit of current : ℕ) (active : Bool) → NotRead before after view (Expired of current active)
+  pub expired : (view limit of current : ℕ) (active : Bool) → NotRead before after view (row_read view (session log d)) limit (Expired of current active)
       → IsReply s log (Read d view limit) (reply.Refused (cause.Expired of current active))
-  pub no_view : (view limit : ℕ) → NotRead before after view NoView → IsReply s log (Read d view limit) (reply.Refused cause.NoView)
-  pub no_session : (view limit : ℕ) → NotRead before after view NoSession → IsReply s log (Read d view limit) (reply.Refused cause.NoSession)
+  pub no_view : (view limit : ℕ) → NotRead before after view (row_read view (session log d)) limit NoView → IsReply s log (Read d view limit) (reply.Refused cause.NoView)
+  pub no_session : (view limit : ℕ) → NotRead before after view (row_read view (session log d)) limit NoSession → IsReply s log (Read d view limit) (reply.Refused cause.NoSession)
 
 abbrev pub DesksAnswerAsTheMachine : Type 0
 DesksAnswerAsTheMachine = (s : Setup) (log : Log) (d : ℕ) (before after : Sitting) → AreAlike s log d before after → IsAnsweredAlike s log d before after

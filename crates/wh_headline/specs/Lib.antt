@@ -1,3 +1,6 @@
 pub mod Alike
+pub mod Growing
+pub mod OneLog
 pub mod RunningNights
 pub mod Told
+pub mod WithReaders

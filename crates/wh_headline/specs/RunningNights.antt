@@ -11,16 +11,17 @@ use Rattle.wh_store.specs.Versions.{Versions, number, table_in, version, version
 use Rattle.wh_store.specs.Faults.{publish_refusal, Ends, EndsLater}
 use Rattle.wh_store.specs.Ledgers.{Ledger, Warehouse}
 use Rattle.wh_store.specs.declared.ended.Ended.{Ended}
+use Rattle.wh_store.specs.Readers.{Bookmark, bookmark_after}
 use Rattle.wh_carry.specs.Night.{Night, AreAllowed}
+use Rattle.wh_desk.specs.Askers.{IsHad}
 use Rattle.wh_desk.specs.Desks.{Grows, OpensAt, Reads, Sitting}
-use Rattle.wh_desk.specs.Known.{Begins, Known, known}
 use Rattle.wh_desk.specs.Writers.{Writing}
 use Rattle.wh_night.specs.Tonight.{Begin_it, IsDone, IsOpen, IsWhole, Leaves, newest_in, tonight}
 use Rattle.wh_night.specs.declared.cause.NightCause.{NightCause}
-use Rattle.wh_night.specs.declared.left.Left.{Left}
-use Rattle.wh_night.specs.declared.left.Left.TheVariants.{Untouched, GivenUp, StillOpen}
+use Rattle.wh_night.specs.declared.left.Aftermath.{Aftermath}
+use Rattle.wh_night.specs.declared.left.Aftermath.TheVariants.{Untouched, GivenUp, StillOpen}
 use Rattle.wh_core.specs.Laws.{IsSetup}
-use Rattle.wh_core.specs.Log.{Bookmark, Log, SessionOf, bookmark_after, is_open, nights_begun, session}
+use Rattle.wh_core.specs.Log.{Log, SessionOf, is_open, nights_begun, session}
 use Rattle.wh_core.specs.Nights.{GivenNight, Setup, night_from, versions}
 use Rattle.wh_core.specs.Replies.{IsLegalLog}
 use Rattle.wh_headline.specs.Alike.{AreSeenAlike, IsAnsweredAlike}
@@ -83,7 +84,7 @@ pub record ComesNext (s : Setup) (n keys : ℕ) (given : GivenNight) (l : Ledger
 
 -- what a night that was refused leaves: untouched, what was there; given up, the lists of one night more that ended; left open, the list
 -- that was there, while its Begin is held, or one in which it is open
-abbrev pub GoesOnAs : Setup → ℕ → Ledger → Left → Ledger → Type 0
+abbrev pub GoesOnAs : Setup → ℕ → Ledger → Aftermath → Ledger → Type 0
 GoesOnAs s n l Untouched m = m ≡ l
 GoesOnAs s n l GivenUp m = AreEndedNights s (n + 1) m.list
 GoesOnAs s n l StillOpen m = AreRunningNights s n false m.list ⊎ AreRunningNights s (n + 1) true m.list
@@ -93,7 +94,7 @@ GoesOnAs s n l StillOpen m = AreRunningNights s n false m.list ⊎ AreRunningNig
 pub record GoOn (s : Setup) (n keys : ℕ) (given : GivenNight) (l m : Ledger) : Type 0 where
   pub done : IsDone (tonight s.catalog given.list l given.changes keys) l m → AreAllowed (tonight s.catalog given.list l given.changes keys)
       → ArePassedBelow s.catalog given.list (bag_at (newest_in l)) (bag_at given.changes) (length given.list) → AreEndedNights s (n + 1) m.list
-  pub left : (cause : NightCause) (how : Left) → Leaves (tonight s.catalog given.list l given.changes keys) cause l how m → GoesOnAs s n l how m
+  pub left : (cause : NightCause) (how : Aftermath) → Leaves (tonight s.catalog given.list l given.changes keys) cause l how m → GoesOnAs s n l how m
   pub put_off : (cause : NightCause) (k : Ledger) → IsOpen (tonight s.catalog given.list l given.changes keys) cause l k → EndsLater k m
       → IsOpen (tonight s.catalog given.list l given.changes keys) cause l m
   pub ended_later : (cause : NightCause) (k : Ledger) (answer : Ended) → IsOpen (tonight s.catalog given.list l given.changes keys) cause l k → Ends k m answer
@@ -138,20 +139,6 @@ RunningNightsHaveALog =
     → AreRunningNights s nights active ops → AreSeats s ops seats → (log : Log) × IsLogOf s nights active ops log × HaveSeats s log seats
 
 -- ---- desks beside running nights
-
--- what a desk has seen and was told
-abbrev pub seen_by : Sitting → Known
-seen_by t = known t.book t.of t.list
-
--- what a writer has published
-abbrev pub published_by : Writing → Known
-published_by w = known w.book w.ledger.of w.ledger.list
-
--- the writer has all that the desk had seen here: `Writer::has` tells so of what `Desk::seen` gives, here or later
-pub record IsHad (w : Writing) (here : Sitting) : Type 0 where
-  pub later : Sitting
-  pub grows : Grows here later
-  pub has : Begins (seen_by later) (published_by w)
 
 -- What a reader's calls of its desk have come to, and where it may go on: where a view begins, if its desk has no session or has opened one;
 -- behind the page that it was given, if more rows follow; where it could before, whatever else was answered or told; and always where a view

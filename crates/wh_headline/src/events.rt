@@ -1,4 +1,4 @@
-//! A warehouse's events, from the first to the last.
+//! Goes through a warehouse's events, from the first to the last.
 
 ghost use Rattle.std.specs.Prelude.{IfOk};
 ghost use Rattle.wh_core.specs.Headline.{ComesTrue};
@@ -14,8 +14,9 @@ use wh_formula::{RowTest, RowValue};
 use wh_row::Bag;
 use wh_strategy::Correct;
 
-/// Goes through the events of workers, readers and the writer, from a warehouse of these tables and nights,
-/// and gives a reply for each. The strategies were judged over this catalogue's shape.
+/// Goes through the events of workers, readers and the writer, from a warehouse of these tables and nights, and returns a reply for each.
+/// The strategies were judged over this catalogue's shape.
+/// Fails for want of memory.
 pub fn carry_out<F: RowTest + Drop, G: RowValue + Drop>(
     alloc: Global,
     catalog: Catalog<F, G>,

@@ -15,12 +15,12 @@ pub record Claim : Type 0 where
   pub measured : Measured
   pub plan : Plan
 
--- the texts of the parts that have it
+-- the texts of the parts that have the views, their sizes and the plan
 pub record ClaimTexts : Type 0 where
   pub measured : MeasuredTexts
   pub plan : List ℕ
 
--- these texts among the parts of a bundle; the first that is missing, in the order of the headings, is a fault
+-- the texts of a claim among the parts of a bundle; the first that is missing, in the order of the headings, is a fault
 abbrev pub claim_texts_in : List Part → Result ClaimTexts LoadFault
 claim_texts_in parts = do
   measured ← measured_texts_in parts
@@ -34,7 +34,7 @@ claim_in texts = do
   plan ← plan_of measured.shape.names texts.plan
   Ok (record { measured = measured; plan = plan })
 
--- these texts in a bundle of any nights, or its first fault
+-- the texts of a claim in a bundle of any nights, or its first fault
 abbrev pub claim_texts_of : List ℕ → Result ClaimTexts LoadFault
 claim_texts_of bytes = parts_in nights.Ignored bytes >>= claim_texts_in
 

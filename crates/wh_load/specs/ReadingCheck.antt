@@ -11,24 +11,24 @@ use Rattle.wh_load.specs.ReadingParts.{parts_in, text_in}
 use Rattle.wh_load.specs.ReadingPlan.{Measured, MeasuredTexts, measured_texts_in}
 use Rattle.wh_strategy.specs.declared.expression.Expression.{Expression}
 
--- what a check is made of
+-- what a check is made of: views with their sizes, and a strategy
 pub record Inputs : Type 0 where
   pub measured : Measured
   pub list : List Expression
 
--- the texts of the parts that have it
+-- the texts of the parts that have the views, their sizes and the strategy
 pub record CheckTexts : Type 0 where
   pub measured : MeasuredTexts
   pub strategy : List ℕ
 
--- these texts among the parts of a bundle; the first that is missing, in the order of the headings, is a fault
+-- the texts of a check among the parts of a bundle; the first that is missing, in the order of the headings, is a fault
 abbrev pub check_texts_in : List Part → Result CheckTexts LoadFault
 check_texts_in parts = do
   measured ← measured_texts_in parts
   strategy ← text_in parts heading.Strategy 0
   Ok (record { measured = measured; strategy = strategy })
 
--- these texts in a bundle of one night, or its first fault
+-- the texts of a check in a bundle of one night, or its first fault
 abbrev pub check_texts_of : List ℕ → Result CheckTexts LoadFault
 check_texts_of bytes = parts_in nights.First bytes >>= check_texts_in
 

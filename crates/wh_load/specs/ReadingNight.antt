@@ -41,13 +41,13 @@ pub record Night : Type 0 where
   pub opening : Opening
   pub given : GivenNight
 
--- the catalogue of its views
+-- the catalogue of a night's views
 abbrev pub catalog_in : Night → CatalogOf
 catalog_in night = catalog_of night.shape night.opening.views
 
 -- ---- rows of no base view
 
--- it is a base view
+-- there is such a view, and it is a base view
 abbrev pub is_base_view : Option ViewOf → Bool
 is_base_view None = false
 is_base_view (Some view) = is_undefined view.definition
@@ -82,7 +82,7 @@ abbrev pub rows_found : Rows → List ℕ → List Part → Option Part
 rows_found TableRows name parts = found (heading.Data name) 0 parts
 rows_found (ChangeRows night) name parts = found (heading.Changes name) night parts
 
--- what the text of such a part gives
+-- what the text of a part of these rows gives
 abbrev pub rows_given : Rows → List NamedKind → Texts → List ℕ → Result (Bag × Texts) LoadFault
 rows_given TableRows columns texts text = table_gives columns texts text
 rows_given (ChangeRows night) columns texts text = changes_give columns texts text
@@ -92,7 +92,7 @@ abbrev pub rows_written : Rows → List NamedKind → Option Part → Texts → 
 rows_written kind columns None texts = Ok (empty, texts)
 rows_written kind columns (Some part) texts = rows_given kind columns texts (text_of part)
 
--- the rows of a view: of a base view those of its part, of a derived view none
+-- the rows of a view: of a base view those that its part writes, of a derived view none
 abbrev pub rows_of : Rows → List Part → List ℕ → ViewOf → Texts → Result (Bag × Texts) LoadFault
 rows_of kind parts name view texts = of_definition view.definition
   where
@@ -100,7 +100,7 @@ rows_of kind parts name view texts = of_definition view.definition
     of_definition None = rows_written kind view.columns (rows_found kind name parts) texts
     of_definition (Some definition) = Ok (empty, texts)
 
--- after the rows of the views before, those of these, in the order of the views; or the first fault
+-- the rows of the views before, and behind them those of these views in their order; or the first fault
 abbrev pub rows_after : Rows → List Part → List (List ℕ) → List Bag → List ViewOf → Texts → Result (List Bag × Texts) LoadFault
 rows_after kind parts names before [] texts = Ok (before, texts)
 rows_after kind parts names before (view ∷ rest) texts = do

@@ -15,12 +15,12 @@ pub record Measured : Type 0 where
   pub shape : Views
   pub sizes : List SizeRow
 
--- the texts of the parts that have them
+-- the texts of the parts that have the views and their sizes
 pub record MeasuredTexts : Type 0 where
   pub catalogue : List ℕ
   pub sizes : List ℕ
 
--- these texts among the parts of a bundle; the first that is missing, in the order of the headings, is a fault
+-- the texts of views and sizes among the parts of a bundle; the first that is missing, in the order of the headings, is a fault
 abbrev pub measured_texts_in : List Part → Result MeasuredTexts LoadFault
 measured_texts_in parts = do
   catalogue ← text_in parts heading.Catalogue 0
@@ -34,7 +34,7 @@ measured_in texts = do
   sizes ← sizes_of_text shape.names texts.sizes
   Ok (record { shape = shape; sizes = sizes })
 
--- these texts in a bundle of any nights, or its first fault
+-- the texts of views and sizes in a bundle of any nights, or its first fault
 abbrev pub measured_texts_of : List ℕ → Result MeasuredTexts LoadFault
 measured_texts_of bytes = parts_in nights.Ignored bytes >>= measured_texts_in
 

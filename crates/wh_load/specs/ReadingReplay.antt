@@ -51,7 +51,7 @@ pub record AreReadForNights (shape : Views) (views : List ViewOf) (tables : List
   pub before : AreReadRows TableRows views tables
   pub brought : AreReadNights views given
 
--- these over these views
+-- these tables, nights and schedule over these views
 abbrev pub replay_with : Views → List ViewOf → Texts → List Bag → List GivenNight → ScheduleOf → Replay
 replay_with shape views texts tables given schedule = record { shape = shape; opening = record { views = views; texts = texts; tables = tables }; nights = given; schedule = schedule }
 

@@ -36,7 +36,7 @@ shown_opening o = record { views = map shown_view o.views.items; texts = o.texts
 abbrev pub shown_given : GivenNight → night.GivenNight
 shown_given g = record { changes = g.changes.items; list = g.strategy }
 
--- both, over their shape
+-- what a night begins from and what is given of it, over their shape
 abbrev pub shown_night : NightInput → night.Night
 shown_night n = record { shape = n.shape; opening = shown_opening n.opening; given = shown_given n.given }
 

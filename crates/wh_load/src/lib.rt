@@ -1,8 +1,8 @@
-//! All input texts of the program, and its output texts: text to value or first fault, and value to text.
+//! Reads all input texts of the program, and writes its output texts: text to value or first fault, and value to text.
 //!
-//! [`read_all`] reads the bytes of an input, and [`parts`] cuts them into the parts of a bundle, which lends them. Each
-//! part has a reader: [`read_shape`] and [`read_definitions`], [`read_strategy`], [`read_sizes`]. A reader answers the
-//! value that its text says, or the text's first fault as a [`LoadFault`], whose number and printed line are exact.
+//! [`read_all`] reads the bytes of an input, and [`parts`] cuts them into the parts of a bundle, which lends them. Each part has a reader:
+//! [`read_shape`] and [`read_definitions`], [`read_strategy`], [`read_sizes`]. A reader answers the value that its text says, or the text's
+//! first fault as a [`LoadFault`], whose number and printed line are exact.
 //!
 //! The readers and writers stand in crates below, which know nothing of one another.
 #![tactic(auto)]
@@ -19,7 +19,7 @@ pub use reading::plan::read_for_plan;
 pub use reading::replay::read_for_replay;
 pub use wh_text::{Column, Dict, Key, Kind, LoadFault, Names, Word};
 pub use wh_text_bundle::{
-    Bundle, Heading, Nights, Part, PartFault, Piece, ReadFault, Scope, parts, read_all,
+    Bundle, Heading, InputSlice, Nights, Part, PartFault, ReadFault, Scope, parts, read_all,
 };
 pub use wh_text_catalogue::{
     Written, WrittenDefinition, WrittenOutput, WrittenView, bases_read_back_law,
@@ -33,6 +33,6 @@ pub use wh_text_lines::{
     strategy_grammar_law, tree_lines_law, write_expression, write_plan, write_strategy,
 };
 pub use wh_text_tables::{
-    Content, RowsAhead, changes_read_back_law, read_ahead, read_changes, read_from, read_sizes,
-    read_table, table_reads_back_law, write_table,
+    ChunkedText, Content, LentChunks, RowsAhead, changes_read_back_law, read_ahead, read_changes,
+    read_from, read_sizes, read_table, table_reads_back_law, write_table,
 };

@@ -1,7 +1,7 @@
-//! What each command reads of a bundle, by one call: what the command works on, or the first fault of the input.
+//! Reads of a bundle, by one call, what a command works on, or the first fault of the input.
 //!
-//! The order of the faults is the same in all: first that of the headings, from the top; then a part that is missing, the
-//! catalogue before the others; then the texts' own faults, the catalogue's first.
+//! The order of the faults is the same for all commands: first that of the headings, from the top; then a part that is missing, the
+//! catalogue before the others. Then come the texts' own faults, the catalogue's first.
 
 mod ahead;
 mod base;

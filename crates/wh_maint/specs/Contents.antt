@@ -22,7 +22,7 @@ contents_within g base (suc steps) v = if_base (g.children v) (base v) (view_val
 unfoldable pub contents : ViewGraph → (ℕ → Bag) → ℕ → Bag
 contents g base v = contents_within g base (suc v) v
 
--- the tables of base views are tables
+-- no base view's table has a negative count
 abbrev pub AreBaseTables : ViewGraph → (ℕ → Bag) → Type 0
 AreBaseTables g tables = (b : ℕ) → g.children b ≡ [] → IsTable (tables b)
 
@@ -34,15 +34,15 @@ AreValues g tables = (v : ℕ) → ¬ (g.children v ≡ []) → tables v ≡ vie
 abbrev pub HaveValuesOver : ViewGraph → (ℕ → Bag) → Type 0
 HaveValuesOver g tables = (v : ℕ) → ¬ (g.children v ≡ []) → HasValue (g.views v) (map tables (g.children v))
 
--- These tables are the contents of a base: no count of the base is negative, base views have its tables, and each derived view has a
--- value over its children's, which is its table. A base over which some view has no value has no contents
+-- These tables are the contents of a base. No count of the base is negative, base views have its tables, and each derived view has a value
+-- over its children's, which is its table. A base over which some view has no value has no contents
 pub record AreContentsOf (g : ViewGraph) (base tables : ℕ → Bag) : Type 0 where
   pub counts : AreBaseTables g base
   pub bases : (b : ℕ) → g.children b ≡ [] → tables b ≡ base b
   pub values : AreValues g tables
   pub defined : HaveValuesOver g tables
 
--- they are the contents of their own base tables
+-- the tables are the contents of their own base tables
 abbrev pub AreContents : ViewGraph → (ℕ → Bag) → Type 0
 AreContents g tables = AreContentsOf g tables tables
 
@@ -55,17 +55,18 @@ pub record IsFromScratch (g : ViewGraph) (base : ℕ → Bag) : Type 0 where
   pub bases : (b : ℕ) → g.children b ≡ [] → contents g base b ≡ base b
   pub values : AreValues g (contents g base)
 
--- so it is of every base
+-- over every base, `contents` has the base's own tables, and over them what the derived views make of their children's
 abbrev pub ContentsAreValues : Type 0
 ContentsAreValues = (g : ViewGraph) (base : ℕ → Bag) → IsViewGraph g → IsFromScratch g base
 
--- and no other tables have
+-- tables that have a base's own tables, and over them what the derived views make of their children's, are what `contents` makes of the
+-- base
 abbrev pub ContentsAreUnique : Type 0
 ContentsAreUnique =
     (g : ViewGraph) (base tables : ℕ → Bag) → IsViewGraph g → ((b : ℕ) → g.children b ≡ [] → tables b ≡ base b) → AreValues g tables
     → (v : ℕ) → tables v ≡ contents g base v
 
--- so tables are what `contents` makes of their own base tables exactly where each derived view's is made of its children's
+-- tables are what `contents` makes of their own base tables exactly where each derived view's is made of its children's
 abbrev pub ContentsAreToldByValues : Type 0
 ContentsAreToldByValues = (g : ViewGraph) (tables : ℕ → Bag) → IsViewGraph g → ((v : ℕ) → tables v ≡ contents g tables v) ↔ AreValues g tables
 

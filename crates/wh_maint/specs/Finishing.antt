@@ -9,7 +9,7 @@ use Rattle.wh_maint.specs.Comp.{PendingOf}
 abbrev pub kind_in : CatalogOf → ℕ → Kind
 kind_in catalog view = (view_of (definition_of catalog view)).kind
 
--- it is the view's, with a column for the counts and one for each sum
+-- what is pending is of the view, with a column for the counts and one for each sum
 pub record IsPendingFor (catalog : CatalogOf) (view : ℕ) (pending : PendingOf) : Type 0 where
   pub of_view : pending.view ≡ view
   pub columns : length pending.columns ≡ suc (sums_of (kind_in catalog view))

@@ -27,7 +27,7 @@ HasGroups (Summed sums) table = table ≢ empty
 abbrev pub IsAbsent : Bag → Bag → Row → Type 0
 IsAbsent table change row = (count table row +ℤ count change row) ≤ℤ negsuc 0
 
--- it does so of this row, and of none below it
+-- this is the first row, in the order of rows, of which a change takes more than the table has
 pub record IsFirstAbsent (table change : Bag) (first : Row) : Type 0 where
   pub absent : IsAbsent table change first
   pub others : (row : Row) → row_cmp row first ≡ Less → ¬ (IsAbsent table change row)

@@ -13,7 +13,8 @@ pub record CanBeEvaluated (g : ViewGraph) (tables : ℕ → Bag) (view : ℕ) : 
   pub few : ¬ (HaveTooMany (g.children view) tables)
   pub valued : HasValue (g.views view) (map tables (g.children view))
 
--- each derived view below this number can be evaluated over the contents of this base: those views have contents, and they can be worked out
+-- each derived view below this number can be evaluated over the contents of this base: the views below it have contents, and they can be
+-- worked out
 abbrev pub HaveContentsBelow : ViewGraph → (ℕ → Bag) → ℕ → Type 0
 HaveContentsBelow g base n = (view : ℕ) → view < n → ¬ (g.children view ≡ []) → CanBeEvaluated g (contents g base) view
 
@@ -24,7 +25,7 @@ IsEvaluateFault g tables view (Range v) = (v ≡ view) × (¬ (HaveTooMany (g.ch
 IsEvaluateFault g tables view (Absent v row) = ⊥
 IsEvaluateFault g tables view Memory = ⊥
 
--- the first derived view that cannot be, and why: the base has no contents, or too many combined rows for them to be worked out
+-- the first derived view that cannot be evaluated, and why: the base has no contents, or too many combined rows for them to be worked out
 pub record HasNoContents (g : ViewGraph) (base : ℕ → Bag) (fault : MaintFault) : Type 0 where
   pub view : ℕ
   pub derived : ¬ (g.children view ≡ [])

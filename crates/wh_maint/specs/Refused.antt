@@ -15,28 +15,30 @@ use Rattle.wh_maint.specs.Fit.{IsAbsent, IsFirstAbsent}
 abbrev pub NoneAbsent : Bag → Bag → Type 0
 NoneAbsent table change = (row : Row) → ¬ (IsAbsent table change row)
 
--- of a base change: the first row that it takes below zero comes first, then that some count leaves i64; memory is wanted for that row alone
+-- the fault of a base change: the first row that it takes below zero comes first, then that some count leaves i64; memory is wanted for
+-- that row alone
 abbrev pub IsChangeFault : ℕ → Bag → Bag → MaintFault → Type 0
 IsChangeFault view table change (Large v) = (v ≡ view) × NoneAbsent table change × ¬ (SumFits table change)
 IsChangeFault view table change (Range v) = ⊥
 IsChangeFault view table change Memory = ¬ (NoneAbsent table change)
 IsChangeFault view table change (Absent v row) = (v ≡ view) × IsFirstAbsent table change row
 
--- of a table that is to have its change: some count leaves i64, else memory is refused
+-- the fault of a table that is to have its change: some count leaves i64, else memory is refused
 abbrev pub IsInstallFault : ℕ → Bag → Bag → MaintFault → Type 0
 IsInstallFault view table change (Large v) = (v ≡ view) × ¬ (SumFits table change)
 IsInstallFault view table change (Range v) = ⊥
 IsInstallFault view table change Memory = SumFits table change
 IsInstallFault view table change (Absent v row) = ⊥
 
--- of a view that is to be finished: a touched group's new count leaves i64, else a new sum of one does; memory is wanted once the counts are known to fit
+-- The fault of a view that is to be finished: a touched group's new count leaves i64, else a new sum of one does. Memory is wanted once the
+-- counts fit
 abbrev pub IsFinishFault : ℕ → Kind → Bag → (ℕ → Bag) → MaintFault → Type 0
 IsFinishFault view kind table pending (Large v) = (v ≡ view) × ¬ (NewCountsFit kind table pending)
 IsFinishFault view kind table pending (Range v) = (v ≡ view) × NewCountsFit kind table pending × ¬ (ChangeHasValue kind table pending)
 IsFinishFault view kind table pending Memory = NewCountsFit kind table pending
 IsFinishFault view kind table pending (Absent v row) = ⊥
 
--- of a Comp: no source has a change, and the view has no sums
+-- a Comp adds nothing: no source has a change, and the view has no sums
 pub record AddsNothing (v : View) (sources : List ℕ) (change : ℕ → Bag) : Type 0 where
   pub unchanged : HaveNoRows sources change
   pub joined : sums_of v.kind ≡ 0
@@ -50,11 +52,11 @@ pub record MergedFit (columns others : List Bag) : Type 0 where
   pub counts : SumFits (bag_at columns 0) (bag_at others 0)
   pub sums : (j : ℕ) → SumsTogetherFit (bag_at columns (suc j)) (bag_at others (suc j))
 
--- in no column another Comp brings a row or group that is not there
+-- another Comp brings, in no column, a row or group that is not there
 abbrev pub BringsNothing : List Bag → List Bag → Type 0
 BringsNothing columns others = (j : ℕ) → HasRowsOf (bag_at columns j) (bag_at others j)
 
--- of what is pending and is to have that of another Comp: a count or a sum leaves its range; memory may be refused before that is known
+-- the fault where what another Comp adds is taken in: a count or a sum leaves its range; memory may be refused before that is known
 abbrev pub IsMergeFault : ℕ → List Bag → List Bag → MaintFault → Type 0
 IsMergeFault view columns others (Large v) = (v ≡ view) × ¬ (MergedFit columns others)
 IsMergeFault view columns others (Range v) = ⊥

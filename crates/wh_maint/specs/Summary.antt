@@ -22,11 +22,11 @@ if_positive (negsuc n) row = []
 abbrev pub group_row : ℕ → (ℕ → Bag) → Row → Counted
 group_row sums accumulators group = if_positive (count (accumulators 0) group) (group ++ cells sums accumulators group)
 
--- the rows of all groups
+-- the bag of the rows of all groups
 abbrev pub summary : ℕ → (ℕ → Bag) → Bag
 summary sums accumulators = bag_of (flat_map {X = Row × ℤ} (λ e. group_row sums accumulators e.0) (written (accumulators 0)))
 
--- the table that accumulators show: of a joined view, the rows as they count
+-- the table that accumulators show: of a joined view the rows as they count, of a summary the rows of its groups
 abbrev pub shown : Kind → (ℕ → Bag) → Bag
 shown Joined accumulators = accumulators 0
 shown (Summed sums) accumulators = summary sums accumulators
@@ -57,12 +57,12 @@ is_nonzero (negsuc n) = true
 abbrev pub is_touched : ℕ → (ℕ → Bag) → Row → Bool
 is_touched sums pending group = list_any (λ j. is_nonzero (count (pending j) group)) (range_with_len 0 (suc sums))
 
--- for each touched group the row of the new accumulators, less the old row; nothing for the others
+-- for each touched group the row of the new accumulators, less the old row; nothing for the other groups
 abbrev pub summary_change : ℕ → Bag → (ℕ → Bag) → Bag
 summary_change sums table pending =
     bag_of (filter (λ e. is_touched sums pending (group_of sums e.0)) (written (difference_of (summary sums (new_accumulators sums table pending)) table)))
 
--- the change of a view: of a joined view, the pending rows themselves
+-- the change of a view: of a joined view the pending rows themselves, of a summary what its touched groups change
 abbrev pub change_of : Kind → Bag → (ℕ → Bag) → Bag
 change_of Joined table pending = pending 0
 change_of (Summed sums) table pending = summary_change sums table pending

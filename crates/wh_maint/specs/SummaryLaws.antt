@@ -25,7 +25,7 @@ pub record ShowsAccumulators (sums : ℕ) (accumulators : ℕ → Bag) : Type 0 
   pub fit : IsFitTable (Summed sums) (summary sums accumulators)
   pub told : (j : ℕ) → j < suc sums → read_back sums (summary sums accumulators) j ≡ accumulators j
 
--- so it is of all that are determined
+-- the table of all accumulators that are determined is fit and tells them
 abbrev pub SummariesShowAccumulators : Type 0
 SummariesShowAccumulators = (sums : ℕ) (accumulators : ℕ → Bag) → AreDetermined accumulators → ShowsAccumulators sums accumulators
 
@@ -34,12 +34,12 @@ pub record IsFitView (v : View) (tables : List Bag) : Type 0 where
   pub determined : AreDetermined (accumulators v tables)
   pub fit : IsFitTable v.kind (view_value v tables)
 
--- so it is over all tables without negative counts
+-- over tables without negative counts, the accumulators of a view are determined, and its value is a fit table
 abbrev pub ValuesAreFit : Type 0
 ValuesAreFit =
     (v : View) (children : List ℕ) (tables : ℕ → Bag) → ((u : ℕ) → has children u ≡ true → IsTable (tables u)) → IsFitView v (map tables children)
 
--- a fit table with the change of its pending accumulators is the table of the new ones
+-- a fit table with the change of its pending accumulators is the table of the new accumulators
 abbrev pub ChangesAreWhole : Type 0
 ChangesAreWhole =
     (sums : ℕ) (table : Bag) (pending : ℕ → Bag) → IsSummaryTable sums table
@@ -63,6 +63,7 @@ ChangesGoByGroups =
     → ((group : Row) → count groups group ≡ pos 0 → is_touched sums pending group ≡ false)
     → summary_change sums table pending ≡ bag_of (flat_map {X = Row × ℤ} (λ e. row_change sums table pending e.0) (written groups))
 
--- between a group and a row of it stand rows of that group alone: the first row that is not below the group is one of its rows, if it has any
+-- Between a group and a row of it stand rows of that group alone. So the first row that is not below the group is one of its rows, if it
+-- has any
 abbrev pub GroupsStandTogether : Type 0
 GroupsStandTogether = (group cells row : Row) → row_cmp group row ≢ Greater → row_cmp row (group ++ cells) ≢ Greater → take (length group) row ≡ group

@@ -21,7 +21,7 @@ TablesHaveWidth =
     (output : OutputOf) (accumulators : ℕ → Bag) → ((j : ℕ) → HasWidth (accumulators j) (key_width output))
     → HasWidth (shown (kind_of output) accumulators) (columns output)
 
--- and so has its change, where the table has them
+-- the change of a table with the view's columns has these columns too
 abbrev pub ChangesHaveWidth : Type 0
 ChangesHaveWidth =
     (output : OutputOf) (table : Bag) (pending : ℕ → Bag) → HasWidth table (columns output) → ((j : ℕ) → HasWidth (pending j) (key_width output))

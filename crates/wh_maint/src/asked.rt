@@ -1,4 +1,4 @@
-//! Whether bags, sources and tables are what the calls over a catalogue ask for.
+//! Tests whether bags, sources and tables are what the calls over a catalogue ask for.
 
 ghost use Rattle.std.specs.Prelude.{◌≡◌, ◌↔◌, ◌<◌, length, IsTrue, IfOk, OnErr, false};
 ghost use Rattle.wh_dag.specs.Shape.{children_of};
@@ -18,7 +18,7 @@ use wh_dag::{Catalog, Output, has_view};
 use wh_formula::{RowTest, RowValue};
 use wh_row::Bag;
 
-/// Whether there is a bag for each view of the catalogue, with rows of that view's width.
+/// Tells whether there is a bag for each view of the catalogue, with rows of that view's width.
 pub fn are_bags<F: RowTest, G: RowValue>(catalog: &Catalog<F, G>, bags: &[Bag]) -> bool
     ensures { IsTrue result ↔ AreBags catalog.now bags.now }
 {
@@ -26,14 +26,14 @@ pub fn are_bags<F: RowTest, G: RowValue>(catalog: &Catalog<F, G>, bags: &[Bag]) 
         return false;
     }
     for view in 0..bags.len() {
-        if !bags[view].is_width(catalog.width(view)) {
+        if !bags[view].has_width(catalog.width(view)) {
             return false;
         }
     }
     true
 }
 
-/// Whether a Comp of the view may have these sources: some of its children, none twice.
+/// Tells whether a Comp of the view may have these sources: some of its children, none twice.
 pub fn are_sources<F: RowTest, G: RowValue>(
     catalog: &Catalog<F, G>,
     view: usize,
@@ -68,9 +68,10 @@ fn are_distinct(views: &[usize]) -> bool
     }
 }
 
-/// Whether a derived view's table is fit: no count is negative and, of a summary, each row stands
-/// once, alone of its group, with a positive count of the group. Memory is wanted for a summary's
-/// groups alone. Takes O(1) time for a joined view, and O(n w log n) for a summary of n rows of w cells.
+/// Tells whether a derived view's table is fit: no count is negative. In a summary, each row also stands once, alone of its group, with a
+/// positive count of the group.
+/// Fails for want of memory, and only for the groups of a summary with rows.
+/// Takes O(1) time for a joined view, and O(n w log n) for a summary of n rows of w cells.
 pub fn is_fit<F: RowTest, G: RowValue>(
     alloc: Global,
     catalog: &Catalog<F, G>,
@@ -117,7 +118,7 @@ fn is_summary_row(sums: usize, row: &[i64], count: i64) -> bool
 }
 
 impl Pending {
-    /// Whether this is of a derived view, with its number of sums.
+    /// Tells whether what is pending belongs to this derived view and has the view's number of sums.
     pub fn is_for<F: RowTest, G: RowValue>(&self, catalog: &Catalog<F, G>, view: usize) -> bool
         requires view { view < length catalog.now.views.children }
         requires derived { is_base catalog.now view ≡ false }

@@ -1,4 +1,4 @@
-//! Whether a table can take a change.
+//! Tests whether a table can take a change, so that a night is refused before it begins.
 
 ghost use Rattle.std.specs.Prelude.{◌≡◌, ◌≢◌, ◌↔◌, ℤ, pos, negsuc, ◌+ℤ◌, ◌≤ℤ◌, List, IsTrue, OnOk, IfErr, MatchOption};
 ghost use Rattle.wh_row.specs.Bag.{count as count_of, SumFits};
@@ -11,9 +11,9 @@ use std::alloc::Global;
 use std::cmp::Ordering;
 use wh_row::{Bag, Row};
 
-/// Tests a base view's change: whether it takes of no row more than the table has, and no count
-/// leaves i64. Absent names the first row, in rising order, whose count would fall below zero;
-/// where there is none, Large stands where a count leaves i64. Memory is wanted for that row alone.
+/// Tests whether a base view's table can take the change: no count falls below zero, and none leaves i64.
+/// Fails with Absent, which names the first row in rising order whose count would fall below zero. Where there is none, it fails with Large
+/// where a count leaves i64. It wants memory for the named row alone.
 /// Takes O(m w log n) time for m rows of a change to a table of n, of w cells.
 pub fn changed(alloc: Global, view: usize, table: &Bag, delta: &Bag) -> Result<(), MaintFault>
     ensures none_absent { OnOk result (NoneAbsent table.now delta.now) }

@@ -1,7 +1,7 @@
-//! The columns of two Comps together, in place.
+//! Adds the columns of two Comps together, in place.
 //!
-//! In each column the rows that are new get their sums first, since they alone take memory. Where it is refused, or a
-//! later column refuses, they go again; once nothing can be refused any more, the sums of all other rows are added.
+//! In each column the rows that are new get their sums first, since they alone take memory. Where memory is refused, or a later column
+//! refuses, they go again. Once nothing can be refused any more, the sums of all other rows are added.
 
 ghost use Rattle.std.specs.Prelude.{◌≡◌, ◌≢◌, ◌↔◌, ◌∷◌, ℤ, pos, ◌+ℤ◌, List, FitsSigned, length, IsTrue, IfOk, OnOk, OnErr};
 ghost use mir.Syntax.{w128};

@@ -1,4 +1,4 @@
-//! Other sums added to those of one column, in two steps: at rows that are new, and at all others.
+//! Adds other sums to those of one column, in two steps: at rows that are new, and at all others.
 
 ghost use Rattle.std.specs.Prelude.{◌≡◌, ◌≢◌, ◌↔◌, ℤ, pos, ◌+ℤ◌, List, cond, FitsSigned, IsTrue, IfOk, OnOk, OnErr};
 ghost use mir.Syntax.{w128};
@@ -10,7 +10,7 @@ ghost use Rattle.wh_maint.specs.Inner.NewSums.{AreNewRows};
 use std::alloc::{AllocError, Global};
 use wh_row::{BagFault, Sums};
 
-/// Whether at each row the sums of both together are an i128.
+/// Tells whether the sums of both together are an i128 at each row.
 pub(crate) fn fit(sums: &Sums, others: &Sums) -> bool
     ensures { IsTrue result ↔ SumsTogetherFit sums.now others.now }
 {
@@ -30,7 +30,7 @@ fn can_add(sums: &Sums, row: &[i64], more: i128) -> bool
     sums.sum(row).checked_add(more).is_some()
 }
 
-/// Of the others' sums those at rows where there are none.
+/// Returns those of the others' sums that stand at rows where there are none.
 pub(crate) fn new_rows(alloc: Global, sums: &Sums, others: &Sums) -> Result<Sums, AllocError>
     ensures new { IfOk result (λ new. AreNewRows sums.now others.now new) }
     ensures memory { OnErr result (¬ (HasRowsOf sums.now others.now)) }

@@ -1,4 +1,4 @@
-//! Why a view's rows were not computed.
+//! Names why a view's rows were not computed.
 
 ghost use Rattle.std.specs.Prelude.{◌≡◌};
 ghost use Rattle.wh_maint.specs.Fault.{fault_number, fault_of};
@@ -23,14 +23,14 @@ impl Model for NamedRow {
 }
 
 impl NamedRow {
-    /// Names the row.
+    /// Makes the name of the row.
     pub fn new(row: Row) -> NamedRow
         ensures { result ≡ row.items }
     {
         NamedRow { row }
     }
 
-    /// The row's cells.
+    /// Returns the row's cells.
     pub fn cells(&self) -> &[i64]
         ensures { result.now ≡ self.now }
     {
@@ -38,21 +38,21 @@ impl NamedRow {
     }
 }
 
-/// Why a view's rows were not computed.
+/// The reasons for which a view's rows are not computed.
 #[derive(Drop)]
 pub enum MaintFault {
-    /// Of this view, a count would leave i64 or a sum i128, or there are too many combined rows.
+    /// A count of this view would leave i64 or a sum i128, or there are too many combined rows.
     Large(usize),
-    /// Of this view, a value or a sum leaves i64.
+    /// A value or a sum of this view leaves i64.
     Range(usize),
     /// Memory was refused.
     Memory,
-    /// Of this view, a change takes more of the row than there is.
+    /// A change of this view takes more of the row than there is.
     Absent(usize, NamedRow),
 }
 
 impl MaintFault {
-    /// The refusal's number, from 1.
+    /// Returns the refusal's number, from 1, in the order of the variants.
     pub fn number(&self) -> u8
         ensures { result ≡ fault_number self.now }
     {
@@ -64,7 +64,7 @@ impl MaintFault {
         }
     }
 
-    /// The fault of the view whose bag was not changed. It is no `From`, as a bag's fault does not tell the view.
+    /// Returns the fault of the view whose bag was not changed. It is no `From`, as a bag's fault does not tell the view.
     pub(crate) fn of_bag(fault: BagFault, view: usize) -> MaintFault
         ensures { result ≡ bag_fault_of view fault }
     {
@@ -115,7 +115,7 @@ impl<T: Drop> From<AllocFailed<T>> for RowFault {
 }
 
 impl RowFault {
-    /// The fault of the view. It is no `From`, as this does not tell the view.
+    /// Returns the fault of the view. It is no `From`, as this does not tell the view.
     pub(crate) fn of(self, view: usize) -> MaintFault
         ensures { result ≡ fault_of view self }
     {

@@ -1,4 +1,4 @@
-//! The change of a view, once its Comps are done.
+//! Makes the change of a view, once its Comps are done.
 
 ghost use Rattle.std.specs.Prelude.{◌≡◌, ℕ, suc, ◌<◌, length, IsTrue, ◌↔◌, IfOk, OnOk, IfErr, false};
 ghost use Rattle.wh_row.specs.Bag.{empty};
@@ -20,11 +20,12 @@ use wh_dag::{Catalog, Output};
 use wh_formula::{RowTest, RowValue};
 use wh_row::Bag;
 
-/// The net change of a derived view: of a joined view, the pending rows; of a summary, for each
-/// group that stands in the pending accumulators, its new row less its old one, where a group whose
-/// count becomes 0 has no new row, and one whose sums are 0 has one. The table is fit, and what is
-/// pending is of this view. Large where the new count of such a group leaves i64; then Range where a
-/// new sum of one does. Of a joined view, it takes O(m w) time for m pending rows of w cells.
+/// Makes the net change of a derived view from what is pending: of a joined view, the pending rows. Of a summary it is, for each group that
+/// stands in the pending accumulators, its new row less its old one. A group whose count becomes 0 has no new row, and one whose sums are 0
+/// has one.
+/// Fails with Large where the new count of such a group leaves i64. Then it fails with Range where a new sum of one does. Memory is refused
+/// only where something is pending.
+/// Takes O(m w) time for a joined view of m pending rows of w cells.
 pub fn finish<F: RowTest, G: RowValue>(
     alloc: Global,
     catalog: &Catalog<F, G>,
@@ -114,8 +115,8 @@ fn summed_fit(pending: &Pending, sums: usize, table: &Bag, number: usize) -> boo
     true
 }
 
-/// The change of a summary whose touched groups' new counts fit i64. A group is dealt with at the first column of the pending accumulators
-/// that has it.
+/// Returns the change of a summary whose touched groups' new counts fit i64. A group is dealt with at the first column of the pending
+/// accumulators that has it.
 pub(crate) fn summary_change(pending: &Pending, sums: usize, table: &Bag) -> Result<Bag, RowFault>
     requires columns { length pending.now.columns ≡ suc sums }
     requires fit { IsSummaryTable sums table.now }

@@ -1,4 +1,4 @@
-//! What changes in one group of a summary.
+//! Makes the change of one group of a summary: its new row, and its old one taken out.
 
 ghost use Rattle.std.specs.Prelude.{◌≡◌, ◌≢◌, ℕ, suc, ◌<◌, ◌≤◌, ℤ, pos, negsuc, ◌+ℤ◌, ◌++◌, map, List, length, IsTrue, ◌↔◌, FitsSigned, IfOk, OnOk, OnErr, MatchOption, ◌||◌, cond, Bool, false};
 ghost use Rattle.std.specs.List.{range_with_len};
@@ -17,7 +17,7 @@ use crate::fault::RowFault;
 use crate::pending::Pending;
 use wh_row::{Bag, BagFault, Row};
 
-/// The group of a summary's row.
+/// Returns the group of a summary's row.
 pub(crate) fn group_in(row: &[i64], sums: usize) -> &[i64]
     requires { sums < length row.now }
     ensures { result.now ≡ group_of sums row.now }
@@ -38,7 +38,7 @@ fn old_row<'a>(table: &'a Bag, sums: usize, group: &[i64]) -> Option<&'a [i64]>
     None
 }
 
-/// Whether the new count of a group fits i64.
+/// Tells whether the new count of a group fits i64.
 pub(crate) fn count_fits(pending: &Pending, sums: usize, table: &Bag, group: &[i64]) -> bool
     requires columns { length pending.now.columns ≡ suc sums }
     requires fit { IsSummaryTable sums table.now }
@@ -268,7 +268,7 @@ fn new_cell(
     i64::try_from(sum).ok()
 }
 
-/// The cell of the group's old row, 0 where it has none.
+/// Returns the cell of the group's old row, 0 where it has none.
 pub(crate) fn old_cell(sums: usize, old: Option<&[i64]>, column: usize) -> i64
     requires wide { IsWide sums old }
     requires column { column < suc sums }

@@ -1,4 +1,4 @@
-//! A table with its change.
+//! Adds a change to a table.
 
 ghost use Rattle.std.specs.Prelude.{◌≡◌, OnOk, IfOk, IfErr};
 ghost use Rattle.wh_row.specs.Bag.{empty, sum_of, SumFits};
@@ -8,7 +8,8 @@ use crate::fault::MaintFault;
 use std::alloc::Global;
 use wh_row::{Bag, BagFault};
 
-/// The table with the change added: the sum of the bags. Large where a count leaves i64.
+/// Returns the table with the change added: the sum of the bags.
+/// Fails with Large where a count leaves i64. Memory comes after it, and only where one of the two has rows.
 /// Takes O(n w + m w log(n + m)) time for n rows of w cells and m of the change.
 pub fn install(alloc: Global, view: usize, table: &Bag, delta: &Bag) -> Result<Bag, MaintFault>
     ensures sum { IfOk result (λ new. new ≡ sum_of table.now delta.now) }

@@ -1,4 +1,4 @@
-//! What the Comps of a view have added so far.
+//! Keeps what the Comps of a view have added so far.
 
 ghost use Rattle.std.specs.Prelude.{◌≡◌, ℕ, suc, ◌<◌, ◌≤◌, ℤ, pos, ◌+ℤ◌, ◌*ℤ◌, FitsSigned, List, IsTrue, length, map, IfOk, IfErr, OnOk, OnErr, slice_index_or};
 ghost use Rattle.std.specs.List.{range_with_len};
@@ -14,8 +14,8 @@ use std::alloc::{AllocError, Global};
 use std::marker::Model;
 use wh_row::{Bag, BagFault, SumRows, Sums};
 
-/// What the Comps of a view have added so far: of a joined view its rows with their counts, of a
-/// summary for each group the count and the sums.
+/// The sum of what the Comps of a view have added so far. Of a joined view it is the rows with their counts, and of a summary the count and
+/// the sums of each group.
 #[derive(Drop)]
 pub struct Pending {
     alloc: Global,
@@ -37,7 +37,8 @@ impl Model for Pending {
 }
 
 impl Pending {
-    /// Nothing added, for a view with so many sums. Memory is wanted for them alone.
+    /// Makes what is pending of a view with so many sums before any Comp: nothing.
+    /// Fails for want of memory, and only where there are sums.
     pub fn new(alloc: Global, view: usize, sums: usize) -> Result<Pending, AllocError>
         ensures view { IfOk result (λ pending. pending.view ≡ view) }
         ensures columns { IfOk result (λ pending. pending.columns ≡ map (λ _. empty) (range_with_len 0 (suc sums))) }
@@ -52,33 +53,35 @@ impl Pending {
         })
     }
 
-    /// What it takes memory from.
+    /// Returns the allocator from which memory is taken.
     pub(crate) fn alloc(&self) -> Global {
         self.alloc
     }
 
-    /// The view.
+    /// Returns the view's number.
     pub fn view(&self) -> usize
         ensures { result ≡ self.now.view }
     {
         self.view
     }
 
-    /// How many sums the view has.
+    /// Returns how many sums the view has.
     pub fn sums(&self) -> usize
         ensures { suc result ≡ length self.now.columns }
     {
         self.sums.len()
     }
 
-    /// How often a row or a group counts. Takes O(w log n) time for n rows or groups of w cells.
+    /// Returns how often a row or a group counts.
+    /// Takes O(w log n) time for n rows or groups of w cells.
     pub fn count(&self, row: &[i64]) -> i64
         ensures { result ≡ count_of (bag_at self.now.columns 0) row.now }
     {
         self.counts.count(row)
     }
 
-    /// The sum with this number, from 0, of a group. Takes O(w log n) time for n groups of w cells.
+    /// Returns the sum with this number, from 0, of a group.
+    /// Takes O(w log n) time for n groups of w cells.
     pub fn sum(&self, number: usize, group: &[i64]) -> i128
         requires { suc number < length self.now.columns }
         ensures { result ≡ count_of (bag_at self.now.columns (suc number)) group.now }
@@ -86,8 +89,9 @@ impl Pending {
         self.sums[number].sum(group)
     }
 
-    /// Adds what another Comp of the same view adds: each row or group then has the counts and the
-    /// sums of both. Large where a count leaves i64 or a sum i128. A refusal changes nothing.
+    /// Adds what another Comp of the view adds: each row or group then has the counts and the sums of both.
+    /// Fails with Large where a count leaves i64 or a sum i128. Memory may come before it, and only for a row or a group that is new. A
+    /// refusal changes nothing.
     pub fn merge(&mut self, other: &Pending) -> Result<(), MaintFault>
         requires view { other.now.view ≡ self.old.view }
         requires columns { length other.now.columns ≡ length self.old.columns }
@@ -111,7 +115,7 @@ impl Pending {
 
     /// Takes in what others added of the same view: as [`Pending::merge`] does, but that a refusal may leave some of it added. It is
     /// moved where nothing was added yet, and so is each column of which all rows are above these.
-    pub(crate) fn take_in(&mut self, other: Pending) -> Result<(), RowFault>
+    pub(crate) fn absorb(&mut self, other: Pending) -> Result<(), RowFault>
         requires view { other.view ≡ self.old.view }
         requires columns { length other.columns ≡ length self.old.columns }
         requires fits { MergedFit self.old.columns other.columns }
@@ -137,7 +141,7 @@ impl Pending {
         ensures sums { (j : ℕ) → bag_at self.new.columns (suc j) ≡ bag_at self.old.columns (suc j) }
         ensures memory { OnErr result (result ≡ Err RowFault.Memory) }
     {
-        match self.counts.take_in(counts) {
+        match self.counts.absorb(counts) {
             Ok(()) => Ok(()),
             Err(BagFault::Memory) => Err(RowFault::Memory),
             Err(BagFault::Large) => unreachable!(),
@@ -206,14 +210,14 @@ impl Pending {
         add_each(self.sums.as_mut_slice(), group, count, values)
     }
 
-    /// The rows of a joined view, or the groups of a summary, with their counts.
+    /// Returns the rows of a joined view, or the groups of a summary, with their counts.
     pub fn counts(&self) -> &Bag
         ensures { result.now ≡ bag_at self.now.columns 0 }
     {
         &self.counts
     }
 
-    /// The groups that have the sum with this number, from 0, in rising order, each with its sum.
+    /// Returns the groups that have the sum with this number, from 0, in rising order, each with its sum.
     pub(crate) fn sum_rows(&self, number: usize) -> SumRows<'_>
         requires { suc number < length self.now.columns }
         ensures { result ≡ written (bag_at self.now.columns (suc number)) }
@@ -221,7 +225,7 @@ impl Pending {
         self.sums[number].rows()
     }
 
-    /// The counts alone.
+    /// Gives the counts up, and drops the sums.
     pub(crate) fn into_counts(self) -> Bag
         ensures { result ≡ bag_at self.columns 0 }
     {

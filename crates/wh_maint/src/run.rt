@@ -1,4 +1,4 @@
-//! Views that do not wait for each other, evaluated beside each other.
+//! Evaluates views that do not wait for each other side by side.
 //!
 //! A view's driving rows are cut for several threads, but what those make is put together by one. Of a run of views, none of which is over
 //! another, each is evaluated by a thread alone, and the answers stand in the order of the views.
@@ -22,8 +22,8 @@ use wh_formula::{RowTest, RowValue};
 use wh_row::Bag;
 use wh_threads::{ThreadBudget, Work};
 
-/// What the views of the run from this one on are evaluated to, in their order: a thread evaluates each. There is nothing where the view
-/// goes alone, nor where there is no memory for the list.
+/// Returns what the views of the run from this one on are evaluated to, in their order: a thread evaluates each. There is nothing where the
+/// view goes alone, nor where there is no memory for the list.
 pub(crate) fn answers_from<R: Threads + Sync, F: RowTest, G: RowValue>(
     budget: &ThreadBudget<'_, R>,
     catalog: &Catalog<F, G>,

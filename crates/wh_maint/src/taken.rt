@@ -1,4 +1,4 @@
-//! Other sums taken in column by column, for good: a refusal may leave some of them added.
+//! Takes other sums in column by column, for good: a refusal may leave some of them added.
 
 ghost use Rattle.std.specs.Prelude.{◌≡◌, ℕ, pos, ◌+ℤ◌, FitsSigned, length, OnOk, OnErr};
 ghost use mir.Syntax.{w128};
@@ -27,12 +27,12 @@ pub(crate) fn take_columns_in(
     let Some((other, others)) = others.split_first_mut() else {
         unreachable!()
     };
-    take_in(first, mem::replace(other, Sums::new(alloc)))?;
+    absorb(first, mem::replace(other, Sums::new(alloc)))?;
     take_columns_in(alloc, rest, others)
 }
 
 /// Takes in other sums: by no more than a move where all their rows are above these, else row by row.
-fn take_in(sums: &mut Sums, others: Sums) -> Result<(), AllocError>
+fn absorb(sums: &mut Sums, others: Sums) -> Result<(), AllocError>
     requires { SumsTogetherFit sums.old others }
     ensures sum { OnOk result (sums.new ≡ sum_of sums.old others) }
     ensures memory { OnErr result (¬ (HasRowsOf sums.old others)) }

@@ -53,8 +53,8 @@ abbrev pub OpensCycle : List (List ℕ) → List (ℕ × ℕ) → List (ℕ × �
 OpensCycle shape ordered decided couple =
     (cycle : List Expression) × IsCycle shape (completed ordered decided) cycle × IsFirstOpen shape decided cycle couple
 
--- what is found of a graph where each couple that is not decided stands in this order: its nodes sorted, or a cycle by decisions
--- alone, or of a cycle that is not, the first couple along it that is not decided
+-- What is found of a graph where each couple that is not decided stands in this order. It is the nodes sorted, or a cycle by decisions
+-- alone, or of a cycle that is not, the first couple along it that is not decided.
 abbrev pub IsFound : List (List ℕ) → List (ℕ × ℕ) → List (ℕ × ℕ) → Found → Type 0
 IsFound shape ordered decided (Sorted list) = IsSorted shape (completed ordered decided) list
 IsFound shape ordered decided (Cycle cycle) = IsCycle shape decided cycle

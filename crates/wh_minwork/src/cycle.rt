@@ -1,4 +1,4 @@
-//! The cycle of a graph that cannot be sorted, from the nodes that are left.
+//! Finds a cycle of a graph that cannot be sorted, among the nodes that are left.
 
 ghost use Rattle.std.specs.Prelude.{◌≡◌, ◌≢◌, ◌<◌, ◌≤◌, true, length, slice_index_or, All, IfOk, MatchOption};
 ghost use Rattle.wh_minwork.specs.Inner.Left.{AreNodesLeft, AreTurned, IsLed, IsRound, IsWithin, is_left, is_node_by, leads_by};
@@ -15,7 +15,7 @@ fn place_of(list: &[Node], node: Node) -> Option<usize>
     list.iter().position(|e| *e == node)
 }
 
-/// The node that is left and leads to this one.
+/// Returns the node that is left and leads to this one: the smallest.
 fn back(edges: &Edges, stuck: &Rest, node: Node) -> Node
     requires within { IsWithin node }
     requires left { is_left stuck.now.comps stuck.now.insts node ≡ true }
@@ -32,7 +32,7 @@ fn back(edges: &Edges, stuck: &Rest, node: Node) -> Node
     }
 }
 
-/// A cycle among the nodes that are left, each of which another one leads to: from this one back, each time to the smallest
+/// Returns a cycle among the nodes that are left, each of which another one leads to. It goes from this one back, each time to the smallest
 /// that leads there, until one is met again. The walk from there on, turned round, is the cycle.
 pub(crate) fn cycle(
     alloc: Global,

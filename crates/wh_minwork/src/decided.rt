@@ -1,4 +1,4 @@
-//! Decisions: which view of a couple is installed first.
+//! Decisions: which view of a couple is installed first. A graph is drawn from them.
 
 ghost use Rattle.std.specs.Prelude.{◌≡◌, ◌≢◌, ◌<◌, [], ◌∷◌, ◌++◌, ℕ, false, length, take, IfOk, OnErr};
 ghost use Rattle.wh_dag.specs.Siblings.{IsCouple};
@@ -13,8 +13,7 @@ use wh_cert::{Relation, comes_first};
 use wh_dag::Shape;
 use wh_strategy::Sizes;
 
-/// Couples that are decided, by their numbers, the view that is installed first standing first. No couple is decided
-/// twice.
+/// Couples that are decided, by their numbers, the view that is installed first standing first. No couple is decided twice.
 #[derive(Debug, Drop)]
 pub struct Decided {
     couples: Vec<(usize, usize)>,
@@ -32,7 +31,7 @@ impl Model for Decided {
 }
 
 impl Decided {
-    /// No couple is decided.
+    /// Makes a list without decisions. Takes no memory.
     pub fn new(alloc: Global) -> Decided
         ensures { result ≡ [] }
     {
@@ -41,8 +40,8 @@ impl Decided {
         }
     }
 
-    /// All couples of the shape, each decided by the desired order: the graph under these decisions is the ordered graph.
-    /// Takes O(V² + V C²) for V views of at most C children each.
+    /// Decides all couples of the shape by the desired order: the graph under these decisions is the ordered graph. Fails for want of
+    /// memory alone, and never where there is no couple. Takes O(V² + V C²) for V views of at most C children each.
     pub fn by_desired_order(
         alloc: Global,
         shape: &Shape,
@@ -64,7 +63,7 @@ impl Decided {
         Ok(decided)
     }
 
-    /// The couples, in the order in which they were decided.
+    /// Returns the couples, in the order in which they were decided.
     pub fn as_slice(&self) -> &[(usize, usize)]
         ensures couples { result.now ≡ self.now }
         ensures once { AreDecisions self.now }
@@ -72,7 +71,7 @@ impl Decided {
         &self.couples
     }
 
-    /// Whether it is decided that the first view is installed before the second. Takes O(n) for n decisions.
+    /// Returns whether it is decided that the first view is installed before the second. Takes O(n) for n decisions.
     #[tactic(auto, unfolding(wh_cert::specs::Graph::decides))]
     pub fn decides(&self, first: usize, second: usize) -> bool
         ensures { result ≡ decides self.now first second }
@@ -80,7 +79,7 @@ impl Decided {
         self.couples.iter().any(|c| c.0 == first && c.1 == second)
     }
 
-    /// Decides that the first view is installed before the second.
+    /// Decides that the first view is installed before the second. An error, for want of memory, leaves the decisions as they were.
     pub fn push(&mut self, first: usize, second: usize) -> Result<(), AllocError>
         requires two { first ≢ second }
         requires open { decides self.old first second ≡ false }
@@ -92,7 +91,7 @@ impl Decided {
         Ok(())
     }
 
-    /// Keeps the first so many decisions, and takes those after them back.
+    /// Keeps the first `length` decisions, and takes those after them back.
     pub fn truncate(&mut self, length: usize)
         ensures { self.new ≡ take length self.old }
     {

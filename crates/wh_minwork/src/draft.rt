@@ -1,4 +1,4 @@
-//! A graph whose couples are decided one after another.
+//! A graph whose couples are decided one after another, as a search goes down and up its tree of decisions.
 
 ghost use Rattle.std.specs.Prelude.{◌≡◌, ◌≢◌, ◌<◌, ◌⊎◌, ◌==◌, ◌&&◌, ◌||◌, ◌++◌, ◌∷◌, ◌-◌, [], ℕ, true, false, length, take, IfOk, OnErr, MatchOption};
 ghost use Rattle.wh_dag.specs.Shape.{IsShape};
@@ -61,7 +61,7 @@ pub enum Found {
     Open(Couple),
 }
 
-/// The couple of two views.
+/// Returns the couple of two views.
 fn couple_of(u: usize, w: usize) -> Couple
     requires { u ≢ w }
     ensures lower { result.lower < result.higher }
@@ -81,7 +81,8 @@ fn couple_of(u: usize, w: usize) -> Couple
 }
 
 impl<'a> Draft<'a> {
-    /// No couple is decided. Takes O(V² + V C²) for V views of at most C children each.
+    /// Makes the draft of a shape in which no couple is decided. Fails for want of memory alone, and never where there is no couple. Takes
+    /// O(V² + V C²) for V views of at most C children each.
     pub fn new(alloc: Global, shape: &'a Shape, sizes: &Sizes) -> Result<Draft<'a>, AllocError>
         requires { length sizes.now ≡ length shape.now.children }
         ensures children { IfOk result (λ d. d.children ≡ shape.now.children) }
@@ -102,7 +103,7 @@ impl<'a> Draft<'a> {
         })
     }
 
-    /// The couples that are decided, in the order in which they were.
+    /// Returns the couples that are decided, in the order in which they were.
     pub fn decided(&self) -> &[(usize, usize)]
         ensures decided { result.now ≡ self.now.decided }
         ensures once { AreDecisions self.now.decided }
@@ -111,7 +112,7 @@ impl<'a> Draft<'a> {
         self.decided.as_slice()
     }
 
-    /// Decides that the first view is installed before the second.
+    /// Decides that the first view is installed before the second. An error, for want of memory, leaves the decisions as they were.
     pub fn push(&mut self, first: usize, second: usize) -> Result<(), AllocError>
         requires couple { IsCouple self.old.children first second }
         requires open { decides self.old.decided first second ≡ false }
@@ -129,7 +130,7 @@ impl<'a> Draft<'a> {
         Ok(())
     }
 
-    /// The last decision.
+    /// Returns the last decision.
     fn last(&self) -> (usize, usize)
         requires { 0 < length self.now.decided }
         ensures last { self.now.decided ≡ take (length self.now.decided - 1) self.now.decided ++ (result.0, result.1) ∷ [] }
@@ -157,9 +158,9 @@ impl<'a> Draft<'a> {
         }
     }
 
-    /// Sorts the graph, or says why it cannot be sorted. The cycle goes back from the smallest node that cannot be placed,
-    /// each time to the smallest one that leads there. Takes O(N²) for N nodes of the graph.
-    pub fn look(&self, alloc: Global) -> Result<Found, AllocError>
+    /// Sorts the graph, or says why it cannot be sorted. The cycle goes back from the smallest node that cannot be placed, each time to the
+    /// smallest one that leads there. Fails for want of memory alone. Takes O(N²) for N nodes of the graph.
+    pub fn next_branch(&self, alloc: Global) -> Result<Found, AllocError>
         ensures found { IfOk result (IsFound self.now.children self.now.ordered self.now.decided) }
 
         // Without a view there is no node, and no memory is taken.
@@ -174,7 +175,7 @@ impl<'a> Draft<'a> {
         }
     }
 
-    /// The couple by which the Inst of the first view leads to a Comp from the last one, where it is not decided.
+    /// Returns the couple by which the Inst of the first view leads to a Comp from the last one, where it is not decided.
     fn open_couple(&self, u: usize, v: usize, w: usize) -> Option<Couple>
         requires { leads self.now.children (completed self.now.ordered self.now.decided) (Node.Inst u) (Node.Comp v w) ≡ true }
         ensures { MatchOption result (leads self.now.children self.now.decided (Node.Inst u) (Node.Comp v w) ≡ true) (λ couple. IsOpen self.now.children self.now.decided couple × AreOf couple u w) }
@@ -188,7 +189,7 @@ impl<'a> Draft<'a> {
         }
     }
 
-    /// The couple by which the first node leads to the other one, where it is not decided.
+    /// Returns the couple by which the first node leads to the other one, where it is not decided.
     fn open_between(&self, from: Node, to: Node) -> Option<Couple>
         requires { leads self.now.children (completed self.now.ordered self.now.decided) from to ≡ true }
         ensures { MatchOption result (leads self.now.children self.now.decided from to ≡ true) (λ couple. IsOpen self.now.children self.now.decided couple × IsBetween couple from to) }
@@ -200,7 +201,7 @@ impl<'a> Draft<'a> {
         }
     }
 
-    /// The first couple along the cycle that is not decided.
+    /// Returns the first couple along the cycle that is not decided.
     fn first_open(&self, cycle: &[Node]) -> Option<Couple>
         requires { IsRound (leads self.now.children (completed self.now.ordered self.now.decided)) (is_node self.now.children) cycle.now }
         ensures { MatchOption result (IsRound (leads self.now.children self.now.decided) (is_node self.now.children) cycle.now) (λ couple. IsOpen self.now.children self.now.decided couple × IsRoundTo (leads self.now.children self.now.decided) couple cycle.now) }

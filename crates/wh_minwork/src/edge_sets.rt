@@ -1,4 +1,4 @@
-//! The edges of a graph as sets of views.
+//! The edges of a graph as sets of views, so that none is stored and many are asked at once.
 
 ghost use Rattle.std.specs.Prelude.{◌≡◌, ◌+◌, ◌<◌, ◌==◌, ◌&&◌, ℕ, true, false, not, MatchOption, sum};
 ghost use Rattle.wh_cert.specs.Graph.{decides};
@@ -35,7 +35,7 @@ pub(crate) struct Rest {
     pub(crate) insts: u64,
 }
 
-/// The sets of the couples that are decided: of each view those that are to be installed before it.
+/// Makes the sets of the couples that are decided: of each view those that are to be installed before it.
 fn before_of(decided: &[(usize, usize)]) -> Rows
     ensures { (u w : ℕ) → u < 64 → w < 64 → in_rows result w u ≡ decides decided.now u w }
 {
@@ -49,7 +49,7 @@ fn before_of(decided: &[(usize, usize)]) -> Rows
 }
 
 impl Edges {
-    /// The sets of a shape's views, and of what is decided. A decision on what is no view of a shape is left out.
+    /// Makes the sets of a shape's views, and of what is decided. A decision on what is no view of a shape is left out.
     pub(crate) fn of(children: &ChildLists, decided: &[(usize, usize)]) -> Edges
         ensures { AreEdges result.views result.over result.under result.before children.now decided.now }
     {
@@ -71,7 +71,7 @@ impl Edges {
 }
 
 impl Rest {
-    /// All nodes are left.
+    /// Makes the sets with all nodes left.
     pub(crate) fn all(edges: &Edges) -> Rest
         ensures comps { result.comps ≡ edges.now.over }
         ensures reads { result.reads ≡ edges.now.under }
@@ -84,7 +84,7 @@ impl Rest {
         }
     }
 
-    /// Whether the node is left.
+    /// Returns whether the node is left.
     pub(crate) fn has(&self, node: Node) -> bool
         requires { IsWithin node }
         ensures { result ≡ is_left self.now.comps self.now.insts node }
@@ -95,7 +95,7 @@ impl Rest {
         }
     }
 
-    /// The node is left no more.
+    /// Takes out the node, which is left no more.
     pub(crate) fn take(&mut self, node: Node)
         requires { IsWithin node }
         ensures left { (e : Node) → is_left self.new.comps self.new.insts e ≡ (not (same_node node e) && is_left self.old.comps self.old.insts e) }
@@ -111,7 +111,7 @@ impl Rest {
         }
     }
 
-    /// A node that is left and leads to this one: the smallest.
+    /// Returns a node that is left and leads to this one: the smallest.
     pub(crate) fn leader(&self, edges: &Edges, node: Node) -> Option<Node>
         requires within { IsWithin node }
         requires node { is_node_by edges.now.over edges.now.views node ≡ true }
@@ -136,7 +136,7 @@ impl Rest {
         }
     }
 
-    /// The smallest node that is left.
+    /// Returns the smallest node that is left.
     pub(crate) fn smallest(&self) -> Option<Node>
         ensures { MatchOption result ((x : Node) → is_left self.now.comps self.now.insts x ≡ false) (λ x. IsWithin x × (is_left self.now.comps self.now.insts x ≡ true)) }
     {

@@ -1,4 +1,4 @@
-//! The graph of decided couples.
+//! The graph of decided couples, which is sorted into a strategy or has a cycle that forbids one.
 
 ghost use Rattle.std.specs.Prelude.{◌≡◌, ◌<◌, length, IfOk, IfErr, OnErr};
 ghost use Rattle.wh_dag.specs.Shape.{IsShape};
@@ -61,8 +61,8 @@ impl<'a> Model for Graph<'a> {
 impl<'a> Graph<'a> {
     ghost use Rattle.wh_minwork.specs.Sorted.{IsSorted, IsAcyclic, IsUnsorted};
 
-    /// The graph of this shape where these couples are decided. A decision on two views without a common parent adds
-    /// no edge.
+    /// Makes the graph of this shape where these couples are decided. A decision on two views without a common parent adds no edge. Takes
+    /// no memory.
     pub fn of(shape: &'a Shape, decided: &'a Decided) -> Graph<'a>
         ensures children { result.children ≡ shape.now.children }
         ensures decided { result.decided ≡ decided.now }
@@ -74,8 +74,8 @@ impl<'a> Graph<'a> {
         }
     }
 
-    /// Each node once, with each edge forward. Which such order it is, of several, is left open. Takes O(N²) for N
-    /// nodes.
+    /// Sorts the nodes: each stands once, with each edge forward. Which such order it is, of several, is left open. Fails with a cycle
+    /// where the graph has one, or for want of memory. Takes O(N²) for N nodes.
     pub fn sorted(&self, alloc: Global) -> Result<Strategy, SortFault>
         ensures sorted { IfOk result (IsSorted self.now.children self.now.decided) }
         ensures acyclic { IfOk result (λ _. IsAcyclic self.now.children self.now.decided) }

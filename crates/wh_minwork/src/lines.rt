@@ -10,7 +10,7 @@ use wh_cert::{PairMins, right_line};
 use wh_dag::Shape;
 use wh_strategy::Sizes;
 
-/// The lines of a certificate by pairs: each sibling pair with its views in the desired order, and its minimum in rows by weight.
+/// Makes the lines of a certificate by pairs: each sibling pair with its views in the desired order, and its minimum in rows by weight.
 /// Takes no memory where there is no such pair. Takes O(V² C²) for V views of at most C children each.
 pub fn pair_mins(alloc: Global, shape: &Shape, sizes: &Sizes) -> Result<PairMins, AllocError>
     requires { length sizes.now ≡ length shape.now.children }

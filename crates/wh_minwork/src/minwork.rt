@@ -1,4 +1,4 @@
-//! MinWork: a plan of least work, where the ordered graph has no cycle.
+//! MinWork: a plan of least work without a search, where the ordered graph has no cycle.
 
 ghost use Rattle.std.specs.Prelude.{◌≡◌, ◌<◌, ◌⊎◌, length, IfOk, IfErr, OnOk, OnErr, List, ℕ};
 ghost use Rattle.wh_dag.specs.Kinds.{IsTree, IsUniform};
@@ -55,7 +55,7 @@ impl<T: Drop> From<AllocFailed<T>> for MinFault {
     }
 }
 
-/// The nodes of the ordered graph, sorted.
+/// Returns the nodes of the ordered graph, sorted.
 fn ordered_strategy(alloc: Global, shape: &Shape, sizes: &Sizes) -> Result<Strategy, MinFault>
     requires { length sizes.now ≡ length shape.now.children }
     ensures sorted { IfOk result (IsSortedAsDesired shape.now.children (sizes_of sizes.now)) }
@@ -72,9 +72,9 @@ fn ordered_strategy(alloc: Global, shape: &Shape, sizes: &Sizes) -> Result<Strat
     }
 }
 
-/// A plan of least work among all correct strategies, from the ordered graph alone, wherever that has no cycle: so for each
-/// tree and each uniform shape, whatever the sizes. Its list is the order in which [`Graph::sorted`] places the nodes of that
-/// graph. Takes O(V² C²) for V views of at most C children each.
+/// Plans a strategy of least work among all correct ones, from the ordered graph alone, wherever that has no cycle. So it does for each
+/// tree and each uniform shape, whatever the sizes. The list is the order in which [`Graph::sorted`] places the nodes of that graph. Fails
+/// with a cycle where the ordered graph has one, or for want of memory. Takes O(V² C²) for V views of at most C children each.
 pub fn min_work(
     alloc: Global,
     shape: &Shape,
@@ -112,7 +112,7 @@ pub fn min_work(
     }
 }
 
-/// A law: what is sorted by the graph of all couples is a correct one-way strategy; where the couples are decided by the
+/// A law of the definitions: what is sorted by the graph of all couples is a correct one-way strategy. Where the couples are decided by the
 /// desired order it costs exactly the pair bound, and otherwise what the decisions say. What can be sorted has no cycle.
 pub fn sorted_is_a_strategy()
     ensures correct { (shape : List (List ℕ)) (decided : List (ℕ × ℕ)) (list : List Expression) → IsShape shape → DecidesAll shape decided → IsSorted shape decided list → IsCorrect shape list × IsOneWay list }

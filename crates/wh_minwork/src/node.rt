@@ -1,4 +1,4 @@
-//! The nodes of a graph.
+//! The nodes of a graph, in the order in which the smallest is placed first.
 
 ghost use Rattle.std.specs.Prelude.{◌≡◌, ◌<◌, length, IfOk, OnErr, map};
 ghost use Rattle.wh_minwork.specs.Inner.Nodes.{expression_of};
@@ -28,7 +28,7 @@ impl Node {
     }
 }
 
-/// The expressions of these nodes, in their order.
+/// Makes the expressions of these nodes, in their order.
 pub(crate) fn expressions(alloc: Global, nodes: &[Node]) -> Result<Vec<Expression>, AllocError>
     ensures list { IfOk result (λ list. list.items ≡ map expression_of nodes.now) }
     ensures memory { OnErr result (0 < length nodes.now) }

@@ -1,4 +1,4 @@
-//! Placing nodes, each after those that lead to it.
+//! Places nodes, each after those that lead to it, with hints at those that may be ready.
 
 ghost use Rattle.std.specs.Prelude.{◌≡◌, ◌<◌, ◌⊎◌, ℕ, true, IfOk, MatchOption, OnErr};
 ghost use Rattle.wh_minwork.specs.Inner.Left.{AreHints, AreNodesLeft, ArePlaced, AreTurned, IsFree, IsLed, IsWithin, is_hinted, is_left, is_node_by, leads_by};
@@ -19,7 +19,7 @@ struct Hints {
     insts: u64,
 }
 
-/// The lowest view from which a Comp of this one is ready.
+/// Returns the lowest view from which a Comp of this one is ready.
 fn ready_source(rest: &Rest, edges: &Edges, v: usize) -> Option<usize>
     requires view { v < 64 }
     requires turned { AreTurned rest.now.comps rest.now.reads }
@@ -37,7 +37,7 @@ fn ready_source(rest: &Rest, edges: &Edges, v: usize) -> Option<usize>
 }
 
 impl Hints {
-    /// The smallest Comp that is ready. A view of which none is goes out of the hints.
+    /// Returns the smallest Comp that is ready. A view of which none is goes out of the hints.
     fn ready_comp(&mut self, rest: &Rest, edges: &Edges) -> Option<Node>
         requires turned { AreTurned rest.now.comps rest.now.reads }
         requires nodes { AreNodesLeft edges.now.views edges.now.over rest.now.comps rest.now.insts }
@@ -54,7 +54,7 @@ impl Hints {
         None
     }
 
-    /// The smallest Inst that is ready. A view whose Inst is not goes out of the hints.
+    /// Returns the smallest Inst that is ready. A view whose Inst is not goes out of the hints.
     fn ready_inst(&mut self, rest: &Rest, edges: &Edges) -> Option<Node>
         requires turned { AreTurned rest.now.comps rest.now.reads }
         requires nodes { AreNodesLeft edges.now.views edges.now.over rest.now.comps rest.now.insts }
@@ -71,7 +71,7 @@ impl Hints {
         None
     }
 
-    /// The smallest node that is ready.
+    /// Returns the smallest node that is ready.
     fn next(&mut self, rest: &Rest, edges: &Edges) -> Option<Node>
         requires turned { AreTurned rest.now.comps rest.now.reads }
         requires nodes { AreNodesLeft edges.now.views edges.now.over rest.now.comps rest.now.insts }
@@ -88,8 +88,8 @@ impl Hints {
         }
     }
 
-    /// The views of which a Comp may be ready, once one of this view was placed: where it was the last one, all that are over
-    /// the view too.
+    /// Returns the views of which a Comp may be ready, once one of this view was placed. Where that was the last one, all that are over the
+    /// view are among them.
     fn comps_above(&self, rest: &Rest, edges: &Edges, v: usize) -> u64
         requires { v < 64 }
         ensures more { (a : ℕ) → in_set self.now.comps a ≡ true → in_set result a ≡ true }
@@ -101,7 +101,7 @@ impl Hints {
         }
     }
 
-    /// The node was placed: what it leads to may be ready now.
+    /// Notes that the node was placed: what it leads to may be ready now.
     fn note(&mut self, rest: &Rest, edges: &Edges, node: Node)
         requires within { IsWithin node }
         requires turned { AreTurned edges.now.over edges.now.under }
@@ -119,8 +119,8 @@ impl Hints {
     }
 }
 
-/// The nodes that can be placed, each after those that lead to it, and those that are left. The smallest node that is ready
-/// goes first: a Comp before an Inst, then the lower target, then the lower source.
+/// Places the nodes that can be placed, each after those that lead to it, and returns those that are left too. The smallest node that is
+/// ready goes first: a Comp before an Inst, then the lower target, then the lower source.
 pub(crate) fn place_all(alloc: Global, edges: &Edges) -> Result<(Vec<Node>, Rest), AllocError>
     requires views { (v u : ℕ) → in_rows edges.now.over v u ≡ true → in_set edges.now.views v ≡ true }
     requires turned { AreTurned edges.now.over edges.now.under }

@@ -1,4 +1,4 @@
-//! Sets of views, a bit for each.
+//! Sets of views, a bit for each, so that all views are joined or met in one step.
 
 ghost use Rattle.std.specs.Prelude.{◌≡◌, ◌<◌, ◌==◌, ◌&&◌, ◌||◌, ℕ, true, false, not, MatchOption, sum};
 ghost use Rattle.wh_minwork.specs.Inner.Sets.{in_set, in_rows};
@@ -8,7 +8,7 @@ use wh_dag::MAX_VIEWS;
 /// A set of views for each view.
 pub(crate) type Rows = [u64; MAX_VIEWS];
 
-/// Whether the view is in the set.
+/// Returns whether the view is in the set.
 pub(crate) fn holds(set: u64, view: usize) -> bool
     requires { view < 64 }
     ensures { result ≡ in_set set view }
@@ -16,7 +16,7 @@ pub(crate) fn holds(set: u64, view: usize) -> bool
     set >> view & 1 == 1
 }
 
-/// The set and this view.
+/// Returns the set and this view.
 pub(crate) fn with(set: u64, view: usize) -> u64
     requires { view < 64 }
     ensures { (w : ℕ) → in_set result w ≡ ((view == w) || in_set set w) }
@@ -24,7 +24,7 @@ pub(crate) fn with(set: u64, view: usize) -> u64
     set | 1 << view
 }
 
-/// The set but for this view.
+/// Returns the set but for this view.
 pub(crate) fn without(set: u64, view: usize) -> u64
     requires { view < 64 }
     ensures rest { (w : ℕ) → in_set result w ≡ (not (view == w) && in_set set w) }
@@ -33,21 +33,21 @@ pub(crate) fn without(set: u64, view: usize) -> u64
     set & !(1 << view)
 }
 
-/// The views of both sets.
+/// Returns the views of both sets.
 pub(crate) fn meet(set: u64, other: u64) -> u64
     ensures { (w : ℕ) → in_set result w ≡ (in_set set w && in_set other w) }
 {
     set & other
 }
 
-/// The views of either set.
+/// Returns the views of either set.
 pub(crate) fn join(set: u64, other: u64) -> u64
     ensures { (w : ℕ) → in_set result w ≡ (in_set set w || in_set other w) }
 {
     set | other
 }
 
-/// The lowest view of the set.
+/// Returns the lowest view of the set.
 pub(crate) fn first(set: u64) -> Option<usize>
     ensures { MatchOption result ((w : ℕ) → in_set set w ≡ false) (λ v. (v < 64) × (in_set set v ≡ true)) }
 {
@@ -58,7 +58,7 @@ pub(crate) fn first(set: u64) -> Option<usize>
     }
 }
 
-/// No view is in the set of any.
+/// Makes the sets in which no view is.
 pub(crate) fn none() -> Rows
     ensures { (a b : ℕ) → in_rows result a b ≡ false }
 {

@@ -1,4 +1,4 @@
-//! The sort of a graph: its nodes in an order, or a cycle that forbids one.
+//! Sorts a graph: its nodes in an order, or a cycle that forbids one.
 
 ghost use Rattle.std.specs.Prelude.{◌<◌, ℕ, List, length, IfOk, OnErr};
 ghost use Rattle.wh_minwork.specs.Inner.Left.{AreEdges, AreSomeEdges};

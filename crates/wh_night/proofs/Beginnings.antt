@@ -12,10 +12,10 @@ use Rattle.wh_store.specs.declared.publish_fault.PublishFault.{PublishFault}
 use Rattle.wh_carry.specs.Kept.{IsFirst, Kept}
 use Rattle.wh_carry.specs.Night.{Night, AreAllowed}
 use Rattle.wh_carry.proofs.Parts.{stands_first}
-use Rattle.wh_night.specs.Causes.{cause_of_begin}
+use Rattle.wh_night.specs.Causes.{IsBeginCause}
 use Rattle.wh_night.specs.declared.cause.NightCause.{NightCause}
-use Rattle.wh_night.specs.declared.left.Left.{Left}
-use Rattle.wh_night.specs.declared.left.Left.TheVariants.{Untouched, GivenUp, StillOpen}
+use Rattle.wh_night.specs.declared.left.Aftermath.{Aftermath}
+use Rattle.wh_night.specs.declared.left.Aftermath.TheVariants.{Untouched, GivenUp, StillOpen}
 use Rattle.wh_night.specs.declared.left.NightFault.{NightFault}
 use Rattle.wh_night.specs.Refusals.{IsFirstStageFault, IsRefused, IsRefusedSo}
 use Rattle.wh_night.specs.Inner.Underway.{Given, HasCome, IsRefusedLater, night_given}
@@ -33,15 +33,21 @@ begins cat list tables changes l keys k steps none is ok first =
     (comes_first cat list (bag_at tables) (bag_at changes) keys k (stands_first cat list (bag_at tables) (bag_at changes) keys k is ok first))
 
 -- where nothing stands in its way
-pub none_refuses : (o : Option PublishFault) (P : Type 0) (Q : PublishFault → Type 0) → MatchOption o (◌≡◌ {A = Option NightCause} None None) (λ f. ◌≡◌ {A = Option NightCause} None (Some (cause_of_begin f))) → P → MatchOption o P Q
+pub none_refuses : (o : Option PublishFault) (P : Type 0) (Q : PublishFault → Type 0) → MatchOption o (◌≡◌ {A = Option NightCause} None None) (λ f. ⊥) → P → MatchOption o P Q
 none_refuses None P Q h p = p
-none_refuses (Some f) P Q h p = cc
+none_refuses (Some f) P Q h p = absurd h
 
-pub none_then : (o : Option PublishFault) → MatchOption o (◌≡◌ {A = Option NightCause} None None) (λ f. ◌≡◌ {A = Option NightCause} None (Some (cause_of_begin f))) → o ≡ None
+pub none_then : (o : Option PublishFault) → MatchOption o (◌≡◌ {A = Option NightCause} None None) (λ f. ⊥) → o ≡ None
 none_then None h = refl
-none_then (Some f) h = cc
+none_then (Some f) h = absurd h
 
-refused_so : (n : Night) (fault : MaintFault) (left : Left) → AreAllowed n → IsFirstStageFault n fault → left ≢ Untouched → IsRefusedSo n left fault
+-- where this does
+pub some_refuses : (o : Option PublishFault) (why : NightCause) (P : Type 0) → MatchOption o (◌≡◌ {A = Option NightCause} (Some why) None) (λ fault. IsBeginCause fault why)
+    → MatchOption o P (λ fault. IsBeginCause fault why × (◌≡◌ {A = Aftermath} Untouched Untouched))
+some_refuses None why P h = absurd (let e = h in cc)
+some_refuses (Some fault) why P h = (h, refl)
+
+refused_so : (n : Night) (fault : MaintFault) (left : Aftermath) → AreAllowed n → IsFirstStageFault n fault → left ≢ Untouched → IsRefusedSo n left fault
 refused_so n fault Untouched allowed s later = absurd (later refl)
 refused_so n fault GivenUp allowed s later = (allowed, s)
 refused_so n fault StillOpen allowed s later = (allowed, s)
@@ -49,6 +55,6 @@ refused_so n fault StillOpen allowed s later = (allowed, s)
 pub later_so : (n : Night) (f : NightFault) → AreAllowed n → IsRefusedLater n f → IsRefused n f
 later_so n f allowed r = record { fault = r.fault; told = r.told; why = ⊎_elim (λ m. inl m) (λ s. inr (refused_so n r.fault f.left allowed s.0 s.1)) r.why }
 
-pub none_gives : (o : Option PublishFault) (P : Type 0) (Q : PublishFault → Type 0) → MatchOption o (◌≡◌ {A = Option NightCause} None None) (λ f. ◌≡◌ {A = Option NightCause} None (Some (cause_of_begin f))) → MatchOption o P Q → P
+pub none_gives : (o : Option PublishFault) (P : Type 0) (Q : PublishFault → Type 0) → MatchOption o (◌≡◌ {A = Option NightCause} None None) (λ f. ⊥) → MatchOption o P Q → P
 none_gives None P Q h p = p
-none_gives (Some f) P Q h p = cc
+none_gives (Some f) P Q h p = absurd h

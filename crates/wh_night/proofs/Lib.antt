@@ -10,6 +10,6 @@ pub mod OneRefusal
 pub mod Ready
 pub mod Taken
 pub mod FitFor
-pub mod Readings
-pub mod Seats
+pub mod Rests
+pub mod Besides
 pub mod Serves

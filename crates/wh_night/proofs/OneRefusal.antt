@@ -24,12 +24,12 @@ use Rattle.wh_carry.proofs.FirstRefusals.{refusals_are_one}
 use Rattle.wh_carry.proofs.Reasons.{turns}
 use Rattle.wh_carry.proofs.StageLaws.{lists_have_one_stages, waves_are_side_by_side}
 use Rattle.wh_carry.specs.Night.{Night, state_at, AreAllowed}
-use Rattle.wh_carry.specs.Standing.{place_behind}
+use Rattle.wh_carry.specs.Stages.{place_behind}
 use Rattle.wh_carry.specs.Inner.Standing.{IsWaveAt}
 use Rattle.wh_carry.proofs.Parts.{fits_behind}
 use Rattle.wh_carry.proofs.Sources.{job_at}
-use Rattle.wh_night.specs.declared.left.Left.{Left}
-use Rattle.wh_night.specs.declared.left.Left.TheVariants.{Untouched, GivenUp, StillOpen}
+use Rattle.wh_night.specs.declared.left.Aftermath.{Aftermath}
+use Rattle.wh_night.specs.declared.left.Aftermath.TheVariants.{Untouched, GivenUp, StillOpen}
 use Rattle.wh_night.specs.Laws.{NightsHaveOneRefusal}
 use Rattle.wh_night.specs.Refusals.{ComesBeforeIn, IsFirstStageFault, IsOfJobs, IsRefusedSo, IsStageFault, IsWaveFault, number_of, rank_in}
 use Rattle.wh_night.proofs.Comes.{same_place}
@@ -230,7 +230,7 @@ module _ (n : Night) (is : IsCatalog n.catalog) (ok : IsCorrect n.catalog.views.
       ap (λ (x : CarryFault). x.fault)
       ((refusals_are_one n.catalog n.list n.tables n.changes).one (record { fault = f; started = false }) (record { fault = g; started = false }) (inr a) (inr b) m o)
 
-  one : (left other : Left) (f g : MaintFault) → IsRefusedSo n left f → IsRefusedSo n other g → f ≢ Memory → g ≢ Memory → (f ≡ g) × ((left ≡ Untouched) ↔ (other ≡ Untouched))
+  one : (left other : Aftermath) (f g : MaintFault) → IsRefusedSo n left f → IsRefusedSo n other g → f ≢ Memory → g ≢ Memory → (f ≡ g) × ((left ≡ Untouched) ↔ (other ≡ Untouched))
   one Untouched Untouched f g a b m o = (one_base f g a b m o, ((λ e. e), (λ e. e)))
   one Untouched GivenUp f g a b m o = absurd (no_base b.0 f a)
   one Untouched StillOpen f g a b m o = absurd (no_base b.0 f a)
@@ -241,7 +241,7 @@ module _ (n : Night) (is : IsCatalog n.catalog) (ok : IsCorrect n.catalog.views.
   one StillOpen GivenUp f g a b m o = (one_first a.0 f g a.1 b.1 m o, ((λ e. cc), (λ e. cc)))
   one StillOpen StillOpen f g a b m o = (one_first a.0 f g a.1 b.1 m o, ((λ e. e), (λ e. e)))
 
-  none : AreAllowed n → ArePassedBelow n.catalog n.list n.tables n.changes (length n.list) → (left : Left) (f : MaintFault) → IsRefusedSo n left f → f ≡ Memory
+  none : AreAllowed n → ArePassedBelow n.catalog n.list n.tables n.changes (length n.list) → (left : Aftermath) (f : MaintFault) → IsRefusedSo n left f → f ≡ Memory
   none allowed passed Untouched f a = absurd (no_base allowed f a)
   none allowed passed GivenUp f a = absurd (no_first passed f a.1)
   none allowed passed StillOpen f a = absurd (no_first passed f a.1)

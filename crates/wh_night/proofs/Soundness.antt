@@ -30,8 +30,8 @@ use Rattle.wh_carry.proofs.NewValues.{changed_base, strategies_end_in_contents}
 use Rattle.wh_carry.proofs.NightLists.{night_lists_end_in_contents, night_lists_write_tables}
 use Rattle.wh_carry.specs.Night.{Night, AreAllowed}
 use Rattle.wh_night.specs.declared.cause.NightCause.{NightCause}
-use Rattle.wh_night.specs.declared.left.Left.{Left}
-use Rattle.wh_night.specs.declared.left.Left.TheVariants.{Untouched, GivenUp, StillOpen}
+use Rattle.wh_night.specs.declared.left.Aftermath.{Aftermath}
+use Rattle.wh_night.specs.declared.left.Aftermath.TheVariants.{Untouched, GivenUp, StillOpen}
 use Rattle.wh_night.specs.declared.left.NightFault.{NightFault}
 use Rattle.wh_night.specs.Tonight.{Begin_it, IsCut, IsDone, IsOpen, IsSound, Leaves, made_by, newest_in, tonight}
 use Rattle.wh_night.proofs.Ends.{versions_append}
@@ -117,7 +117,7 @@ module _ (n : Night) (l m : Ledger) where
       ap newest_in o.now ∙ ap (λ (v : Versions). v.newest) (behind l (o.ops ++ Gives_up ∷ []) ∙ ap (versions_from v0) o.cut.cut ∙ versions_append v0 (Opens ∷ o.cut.puts) (Gives_up ∷ []))
       ∙ (front_keeps n v0 (Opens ∷ o.cut.puts) o.cut.beginning).0
 
-  left_newest : (cause : NightCause) (left : Left) → Leaves n cause l left m → newest_in m ≡ newest_in l
+  left_newest : (cause : NightCause) (left : Aftermath) → Leaves n cause l left m → newest_in m ≡ newest_in l
   left_newest cause Untouched e = ap newest_in e
   left_newest cause GivenUp o = cut_newest cause o
   left_newest cause StillOpen o = open_newest cause o
@@ -200,7 +200,7 @@ module _ (catalog : CatalogOf) (list : List Expression) (l m : Ledger) (changes 
       has.0))
       (ap (λ (v : Versions). v.newest) now) (ap (λ (v : Versions). v.older) now)
 
-  left_sound : (cause : NightCause) (left : Left) → Leaves n cause l left m → IsSound catalog m
+  left_sound : (cause : NightCause) (left : Aftermath) → Leaves n cause l left m → IsSound catalog m
   left_sound cause Untouched e = subst (IsSound catalog) (sym e) sound
   left_sound cause GivenUp o = cut_sound cause o
   left_sound cause StillOpen o = open_sound cause o

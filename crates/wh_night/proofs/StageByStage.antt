@@ -31,7 +31,7 @@ use Rattle.wh_carry.proofs.Nights.{agrees_next, passed_next, rows_right, steps_n
 use Rattle.wh_carry.proofs.Reasons.{inst_reason}
 use Rattle.wh_carry.proofs.Refusals.{same_fit, told_next, unfinished}
 use Rattle.wh_carry.specs.Night.{Night, state_at}
-use Rattle.wh_carry.specs.Standing.{place_behind}
+use Rattle.wh_carry.specs.Stages.{place_behind}
 use Rattle.wh_carry.specs.Inner.Standing.{IsWaveAt, StandsAt}
 use Rattle.wh_carry.proofs.Parts.{fits_behind, inst_at, place_next, wave_at}
 use Rattle.wh_night.specs.Refusals.{IsFirstStageFault, IsStageFault, IsWaveFault}

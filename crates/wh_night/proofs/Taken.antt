@@ -36,7 +36,7 @@ use Rattle.wh_carry.proofs.NightLists.{night_lists_write_tables}
 use Rattle.wh_carry.proofs.Nights.{passed_next}
 use Rattle.wh_carry.proofs.Prefixes.{before_next}
 use Rattle.wh_carry.specs.Night.{Night, state_at}
-use Rattle.wh_carry.specs.Standing.{place_behind}
+use Rattle.wh_carry.specs.Stages.{place_behind}
 use Rattle.wh_carry.proofs.Pages.{full_page, last_page}
 use Rattle.wh_carry.proofs.Parts.{inst_at}
 use Rattle.wh_night.specs.Tonight.{goes_out, out_below}

@@ -5,5 +5,6 @@ pub mod Refusals
 pub mod Underway
 pub mod RefusedWaves
 pub mod Laws
+pub mod Beside
 pub mod Serving
 pub mod Inner

@@ -1,5 +1,5 @@
 -- What a night publishes behind what stood published before, and what a refused one leaves.
-use Rattle.std.specs.Prelude.{◌≡◌, ◌≢◌, ◌⊎◌, ℕ, ◌≤◌, List, [], ◌∷◌, ◌++◌, Option, Some, None, IsTrue, length}
+use Rattle.std.specs.Prelude.{◌≡◌, ◌≢◌, ◌⊎◌, ℕ, ◌+◌, ◌≤◌, List, [], ◌∷◌, ◌++◌, Option, Some, None, IsTrue, MatchResult, Result, length}
 use Rattle.wh_row.specs.Bag.{Bag}
 use Rattle.wh_dag.specs.Catalog.{CatalogOf}
 use Rattle.wh_strategy.specs.declared.expression.Expression.{Expression}
@@ -18,12 +18,13 @@ use Rattle.wh_carry.specs.Refused.{ArePassedBelow}
 use Rattle.wh_carry.specs.Waves.{stages_of}
 use Rattle.wh_carry.specs.declared.stages.Stage.{Stage}
 use Rattle.wh_carry.specs.Night.{Night, AreAllowed}
-use Rattle.wh_carry.specs.Standing.{place_behind}
+use Rattle.wh_carry.specs.Stages.{place_behind}
 use Rattle.wh_night.specs.Causes.{cause_of}
 use Rattle.wh_night.specs.Refusals.{IsStageFault}
 use Rattle.wh_night.specs.declared.cause.NightCause.{NightCause}
-use Rattle.wh_night.specs.declared.left.Left.{Left}
-use Rattle.wh_night.specs.declared.left.Left.TheVariants.{Untouched, GivenUp, StillOpen}
+use Rattle.wh_night.specs.declared.left.Aftermath.{Aftermath}
+use Rattle.wh_night.specs.declared.left.NightFault.{NightFault}
+use Rattle.wh_night.specs.declared.left.Aftermath.TheVariants.{Untouched, GivenUp, StillOpen}
 
 -- the contents of the current version
 abbrev pub newest_in : Ledger → Contents
@@ -33,11 +34,11 @@ newest_in l = (versions_in l.of l.list).newest
 abbrev pub night_over : CatalogOf → List Expression → Contents → List Bag → ℕ → Night
 night_over catalog list tables changes keys = record { catalog = catalog; list = list; tables = bag_at tables; changes = bag_at changes; keys = keys }
 
--- that over the contents of the current version
+-- the night of this strategy and these changes over the contents of the current version
 abbrev pub tonight : CatalogOf → List Expression → Ledger → List Bag → ℕ → Night
 tonight catalog list l changes keys = night_over catalog list (newest_in l) changes keys
 
--- the tables that it makes
+-- the tables that a night makes
 abbrev pub made_by : Night → ℕ → Bag
 made_by n = tables_after (graph_of n.catalog) n.changes n.list n.tables
 
@@ -74,8 +75,8 @@ pub record IsRefusedThere (n : Night) (place : ℕ) (fault : MaintFault) : Type 
   pub here : place ≡ place_behind before
   pub is : IsStageFault n place refused fault
 
--- How far a refused night came that has published these operations, and why no further: no base change is refused, each expression before
--- a place is passed, and what is published up to there begins with the operations. For want of memory the rest of it is still to come; else
+-- How far a refused night came that has published these operations, and why no further. No base change is refused, each expression before a
+-- place is passed, and what is published up to there begins with the operations. For want of memory the rest of it is still to come; else
 -- there is none, and the stage at the place is refused
 pub record HasStopped (n : Night) (cause : NightCause) (ops : List Operation) : Type 0 where
   pub allowed : AreAllowed n
@@ -112,11 +113,22 @@ pub record IsOpen (n : Night) (cause : NightCause) (l m : Ledger) : Type 0 where
   pub now : m ≡ goes_out l ops held
   pub busy : IsTrue (is_busy m)
 
--- what a night leaves that is refused for this cause
-abbrev pub Leaves : Night → NightCause → Ledger → Left → Ledger → Type 0
+-- the night leaves what a night leaves that is refused for this cause
+abbrev pub Leaves : Night → NightCause → Ledger → Aftermath → Ledger → Type 0
 Leaves n cause l Untouched m = m ≡ l
 Leaves n cause l GivenUp m = IsCut n cause l m
 Leaves n cause l StillOpen m = IsOpen n cause l m
+
+-- what a refused night leaves says how many give-ups of its writer were refused: one where it is open still, or its commit is held, and
+-- else none
+abbrev pub CountsEnd : Aftermath → ℕ → ℕ → Type 0
+CountsEnd Untouched before after = after ≡ before
+CountsEnd GivenUp before after = after ≡ before
+CountsEnd StillOpen before after = after ≡ before + 1
+
+-- the answer of a night says how many give-ups of its writer were refused; of a night that is done none was
+abbrev pub TellsEnd : {T : Type 0} → Result T NightFault → ℕ → ℕ → Type 0
+TellsEnd answer before after = MatchResult answer (λ _. after ≡ before) (λ f. CountsEnd f.left before after)
 
 -- the published list is sound: each operation may come where it stands, and each version is the contents of a base
 pub record IsSound (catalog : CatalogOf) (l : Ledger) : Type 0 where

@@ -22,7 +22,7 @@ pub record IsAdded (catalog : CatalogOf) (k : Kept) (job : Job) (added : Pending
   pub value : added.columns ≡ comp_columns (view_of (definition_of catalog job.view)) (children_of catalog.views.children job.view) job.from k.tables k.changes
   pub can : CanCompute catalog k job
 
--- so it is of each job
+-- these are what the jobs add, one for each
 pub record AreAdded (catalog : CatalogOf) (k : Kept) (jobs : List Job) (added : List PendingOf) : Type 0 where
   pub each : length added ≡ length jobs
   pub are : (j : ℕ) (job : Job) (p : PendingOf) → slice_get jobs j ≡ Some job → slice_get added j ≡ Some p → IsAdded catalog k job p

@@ -1,4 +1,4 @@
-//! A night that nobody reads beside: wave by wave over tables of its own, and nothing is published.
+//! Carries a night out that nobody reads beside, wave by wave over tables of its own, and publishes nothing.
 
 ghost use Rattle.std.specs.Prelude.{◌≡◌, ◌⊎◌, ◌≤◌, ◌++◌, ◌∷◌, [], ℕ, List, Some, false, length, slice_get, OnOk, IfOk, IfErr};
 ghost use Rattle.wh_maint.specs.Asked.{AreBags};
@@ -7,14 +7,15 @@ ghost use Rattle.wh_carry.specs.CarriedOut.{IsNightCarried};
 ghost use Rattle.wh_carry.specs.Kept.{kept, HaveParts, CanFinish};
 ghost use Rattle.wh_carry.specs.Waves.{stages_of};
 ghost use Rattle.wh_carry.specs.declared.stages.Stage.{Stage as StageOf};
-ghost use Rattle.wh_carry.specs.Standing.{IsStageIn, place_behind};
+ghost use Rattle.wh_carry.specs.Stages.{place_behind};
+ghost use Rattle.wh_carry.specs.Standing.{IsStageIn};
 ghost use Rattle.wh_carry.specs.Fit.{AreFitTables};
 ghost use Rattle.wh_night.specs.Refusals.{IsFirstStageFault, IsRefusedSo, left_of};
 ghost use Rattle.wh_night.specs.Tonight.{night_over};
 ghost use Rattle.wh_night.specs.Inner.Underway.{Given, HasCome, night_given};
 
 use crate::gate::Gate;
-use crate::means::{Asked, Progress};
+use crate::means::{NightRequest, Progress};
 use crate::outlet::Nowhere;
 use crate::stages::through;
 use std::thread::Threads;
@@ -46,15 +47,15 @@ fn carried(progress: Progress) -> Carried
     }
 }
 
-/// Carries a night out that nobody reads beside, wave by wave, from these tables: one bag a view, each fit, as the contents of a
-/// base are (`are_fit` tests it). There is a change for each view; those of derived views are not read. The strategy was judged over
-/// this catalogue's shape (`is_of` tests it). The tables are changed where they lie, and none is copied; a refusal leaves none. The
-/// report has version 1.
+/// Carries a night out that nobody reads beside, wave by wave, from these tables: one bag a view, each fit, as the contents of a base are
+/// (`are_fit` tests it). There is a change for each view; those of derived views are not read. The strategy was judged over this
+/// catalogue's shape (`is_of` tests it). The tables are changed where they lie, and none is copied. The report has version 1.
 ///
-/// It is carried out and refused as [`crate::night`] carries it out and refuses it: first the base changes are tested, view by view,
-/// Absent, then Large; then come the waves, whose jobs are drawn by 1 to 16 workers, and the Insts. Memory may be refused at any point.
+/// Fails with the first refusal: of the base changes, view by view, Absent, then Large; then of the waves and the Insts, as
+/// [`crate::night`] refuses them. The jobs of a wave are drawn by 1 to 16 workers. Memory may be refused at any point. A refusal leaves no
+/// tables.
 pub fn night_alone<F: RowTest, G: RowValue, T: Gate + Sync, R: Threads + Sync>(
-    asked: &Asked<'_, F, G, T, R>,
+    asked: &NightRequest<'_, F, G, T, R>,
     tables: Vec<Bag>,
 ) -> Result<Carried, CarryFault>
     requires judged { asked.now.correct.now.children ≡ asked.now.catalog.now.views.children }

@@ -1,21 +1,21 @@
-//! Why a night is refused.
+//! Names why a night is refused.
 
 ghost use Rattle.std.specs.Prelude.{◌≡◌};
-ghost use Rattle.wh_night.specs.Causes.{cause_number, cause_of, cause_of_begin};
+ghost use Rattle.wh_night.specs.Causes.{cause_number, cause_of};
 
 use wh_maint::{MaintFault, NamedRow};
 use wh_store::PublishFault;
 
-/// Why a night is refused.
+/// The reasons for which a night is refused.
 #[derive(Drop)]
 pub enum NightCause {
     /// Memory was refused.
     Memory,
-    /// Of this view, a count would leave i64 or a sum i128, or there are too many combined rows.
+    /// A count of this view would leave i64 or a sum i128, or there are too many combined rows.
     Large(usize),
-    /// Of this view, a value or a sum leaves i64.
+    /// A value or a sum of this view leaves i64.
     Range(usize),
-    /// Of this base view, the change takes more of the row than there is.
+    /// The change of this base view takes more of the row than there is.
     Absent(usize, NamedRow),
     /// A night is open.
     NightOpen,
@@ -26,7 +26,7 @@ pub enum NightCause {
 }
 
 impl NightCause {
-    /// The cause's number, from 1.
+    /// Returns the cause's number, from 1.
     pub fn number(&self) -> u8
         ensures { result ≡ cause_number self.now }
     {
@@ -41,7 +41,7 @@ impl NightCause {
         }
     }
 
-    /// The cause that a fault of carrying out is.
+    /// Returns the cause that a fault of carrying out is.
     pub(crate) fn of(fault: MaintFault) -> NightCause
         ensures { result ≡ cause_of fault }
     {

@@ -1,11 +1,11 @@
-//! What is told when a job is drawn and when it is done.
+//! Tells a caller when a job is drawn and when it is done.
 
-/// Is called round each job of a wave, with the job's number in its wave, from 0.
+/// A listener that is called round each job of a wave, with the job's number in its wave, from 0.
 pub trait Gate {
-    /// The job was drawn, and is computed next.
+    /// Is called when the job was drawn, before it is computed.
     fn taken(&self, job: usize);
 
-    /// The job is done.
+    /// Is called when the job is done.
     fn finished(&self, job: usize);
 }
 

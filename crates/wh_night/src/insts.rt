@@ -1,4 +1,4 @@
-//! Insts: a view's change is added to its table, and its new counts are handed to the night's outlet.
+//! Installs views: a view's change is added to its table, and its new counts are handed to the night's outlet.
 
 ghost use Rattle.std.specs.Prelude.{◌≡◌, ◌≤◌, ◌<◌, ◌==◌, length, OnOk, IfErr, IfSome};
 ghost use Rattle.wh_strategy.specs.declared.expression.Expression.TheVariants.{Inst};
@@ -9,7 +9,7 @@ ghost use Rattle.wh_carry.specs.declared.stages.Stage.TheVariants as stage;
 ghost use Rattle.wh_night.specs.Inner.Underway.{CanPublish, IsInstStopped, Reports, behind, puts_in};
 
 use crate::gate::Gate;
-use crate::means::{Asked, Progress};
+use crate::means::{NightRequest, Progress};
 use crate::outlet::Outlet;
 use std::thread::Threads;
 use wh_formula::{RowTest, RowValue};
@@ -18,7 +18,7 @@ use wh_strategy::Expression;
 
 /// Carries an Inst out and reports it.
 fn install<F: RowTest, G: RowValue, T: Gate, R: Threads + Sync>(
-    asked: &Asked<'_, F, G, T, R>,
+    asked: &NightRequest<'_, F, G, T, R>,
     view: usize,
     progress: &mut Progress,
 ) -> Result<(), MaintFault>
@@ -47,7 +47,7 @@ fn install<F: RowTest, G: RowValue, T: Gate, R: Threads + Sync>(
 pub(crate) fn inst<W, O: Outlet<W>, F: RowTest, G: RowValue, T: Gate, R: Threads + Sync>(
     outlet: &O,
     writer: &mut W,
-    asked: &Asked<'_, F, G, T, R>,
+    asked: &NightRequest<'_, F, G, T, R>,
     view: usize,
     progress: &mut Progress,
 ) -> Result<(), MaintFault>

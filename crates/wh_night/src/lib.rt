@@ -6,6 +6,7 @@
 #![tactic(auto)]
 
 mod alone;
+mod beside;
 mod cause;
 mod gate;
 mod insts;
@@ -15,7 +16,7 @@ mod means;
 mod opening;
 mod outlet;
 mod pages;
-mod reading;
+mod readers;
 mod running;
 mod serving;
 mod stages;
@@ -24,14 +25,16 @@ mod watch;
 mod waves;
 
 pub use alone::night_alone;
+pub use beside::{Beside, night_beside};
 pub use cause::NightCause;
 pub use gate::{Gate, NoGate};
 pub use laws::nights_have_one_refusal;
-pub use left::{Left, NightFault};
-pub use means::Asked;
+pub use left::{Aftermath, NightFault};
+pub use means::NightRequest;
 pub use opening::current_tables;
 pub use running::{night, night_from};
 pub use serving::{Served, serve_night};
 pub use tested::{are_fit_for, can_run_wave};
-pub use watch::{NoWatch, Watch};
+pub use watch::NoWatch;
 pub use waves::run_wave;
+pub use wh_desk::Watch;

@@ -1,4 +1,4 @@
-//! What a night is asked for, and how far it has come.
+//! Holds what a night is asked for, and how far it has come.
 
 use crate::gate::Gate;
 use std::marker::Sync;
@@ -10,19 +10,19 @@ use wh_row::Bag;
 use wh_strategy::{Correct, Expression};
 use wh_threads::ThreadBudget;
 
-/// The night that is asked for, and with what it is carried out. Nothing of it is changed.
+/// The night that is asked for, and the means by which it is carried out. Nothing of it is changed.
 #[derive(Drop)]
-pub struct Asked<'n, F: RowTest, G: RowValue, T: Gate, R: Threads + Sync> {
-    /// How many workers draw jobs, 1 to 16, each in a thread, of which the caller's is one.
+pub struct NightRequest<'n, F: RowTest, G: RowValue, T: Gate, R: Threads + Sync> {
+    /// The budget of threads, 1 to 16, which are the workers that draw jobs; the caller's is one of them.
     pub budget: &'n ThreadBudget<'n, R>,
     pub catalog: &'n Catalog<F, G>,
-    /// A change for each view; those of derived views are not read.
+    /// The change of each view; those of derived views are not read.
     pub changes: &'n [Bag],
     /// The strategy, which was judged over this catalogue's shape (`is_of` tests it).
     pub correct: &'n Correct,
-    /// How many rows of a view one operation writes at most, 1 to 256, where something is published.
+    /// The most rows of a view that one operation writes, 1 to 256, where something is published.
     pub page_keys: usize,
-    /// Is told of each job.
+    /// The listener that is told of each job.
     pub gate: &'n T,
 }
 

@@ -1,9 +1,9 @@
-//! What is looked at before a night begins.
+//! Looks, before a night begins, at what could refuse it.
 
-ghost use Rattle.std.specs.Prelude.{◌≡◌, None, Some, length, IfOk, MatchOption};
+ghost use Rattle.std.specs.Prelude.{◌≡◌, None, length, IfOk, IsSomeAnd, MatchOption};
 ghost use Rattle.wh_store.specs.Operations.{Opens};
 ghost use Rattle.wh_store.specs.Faults.{publish_refusal};
-ghost use Rattle.wh_night.specs.Causes.{cause_of_begin};
+ghost use Rattle.wh_night.specs.Causes.{IsBeginCause};
 ghost use Rattle.wh_night.specs.Tonight.{newest_in};
 
 use crate::NightCause;
@@ -11,9 +11,9 @@ use std::alloc::{AllocError, Global};
 use wh_row::Bag;
 use wh_store::Publish;
 
-/// Why no night can begin now, if none can: Held, then NightOpen, then LastVersion.
+/// Tells why no night can begin now, if none can: Held, then NightOpen, then LastVersion.
 pub(crate) fn not_ready<P: Publish>(writer: &P) -> Option<NightCause>
-    ensures { MatchOption (publish_refusal (P.kept writer.now) Opens) (result ≡ None) (λ fault. result ≡ Some (cause_of_begin fault)) }
+    ensures { MatchOption (publish_refusal (P.kept writer.now) Opens) (result ≡ None) (λ fault. IsSomeAnd result (IsBeginCause fault)) }
 {
     if writer.held() {
         return Some(NightCause::Held);
@@ -27,7 +27,8 @@ pub(crate) fn not_ready<P: Publish>(writer: &P) -> Option<NightCause>
     None
 }
 
-/// The tables of the current version, which has so many views.
+/// Copies the tables of the current version, which has so many views.
+/// Fails for want of memory.
 pub fn current_tables<P: Publish>(
     alloc: Global,
     writer: &P,

@@ -1,4 +1,4 @@
-//! Where the new counts go that Insts make.
+//! Takes the new counts that Insts make, to where the night hands them.
 
 ghost use Rattle.std.specs.Prelude.{◌≡◌, ◌≤◌, ℕ, Option, None, Some, OnOk, OnErr, IfSome, map};
 ghost use Rattle.wh_store.specs.Operations.{Writes};
@@ -17,7 +17,7 @@ pub(crate) trait Outlet<W> {
     // What the writer has published, if it publishes at all.
     ghost kept: { W → Option Ledger };
 
-    // By what warehouses are told apart.
+    // What no page changes: by what warehouses are told apart, and how many give-ups were refused.
     ghost Home: { Type 0 };
 
     ghost home: { W → Home };
@@ -60,9 +60,9 @@ impl Outlet<()> for Nowhere {
 impl<P: Publish, R: Wait> Outlet<P> for Pages<'_, R> {
     ghost kept = { λ writer. Some (P.kept writer) };
 
-    ghost Home = { P.Home };
+    ghost Home = { P.Home × ℕ };
 
-    ghost home = { P.home };
+    ghost home = { λ writer. (P.home writer, P.refused_ends writer) };
 
     ghost keys = { λ pages. pages.keys };
 

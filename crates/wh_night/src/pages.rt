@@ -1,4 +1,4 @@
-//! Pages: the new counts of a change go out, so many rows at a time.
+//! Puts the new counts of a change out in pages, so many rows at a time.
 
 ghost use Rattle.std.specs.Prelude.{true, ◌≡◌, ◌≤◌, ◌<◌, ◌++◌, ◌∷◌, [], None, List, length, map, OnOk, OnErr};
 ghost use Rattle.wh_row.specs.Bag.{count, written};
@@ -34,6 +34,7 @@ fn publish_page<P: Publish, R: Wait>(
     requires takes { TakesPages (P.kept writer.old) view }
     requires good { is_page (plain page.old.items) ≡ true }
     ensures home { P.home writer.new ≡ P.home writer.old }
+    ensures refused_ends { P.refused_ends writer.new ≡ P.refused_ends writer.old }
     ensures empty { OnOk result (page.new.items ≡ []) }
     ensures out { OnOk result (P.kept writer.new ≡ goes_out (P.kept writer.old) (Writes view (plain page.old.items) ∷ []) None) }
     ensures err { OnErr result ((rest : List Operation) → IsPartly (P.kept writer.old) (Writes view (plain page.old.items) ∷ rest) (P.kept writer.new)) }
@@ -58,6 +59,7 @@ fn make_room<P: Publish, R: Wait>(
     requires few { length page.old.items ≤ pages.now.keys }
     requires good { length page.old.items ≡ pages.now.keys → is_page (plain page.old.items) ≡ true }
     ensures home { P.home writer.new ≡ P.home writer.old }
+    ensures refused_ends { P.refused_ends writer.new ≡ P.refused_ends writer.old }
     ensures room { OnOk result (length page.new.items < pages.now.keys) }
     ensures out { OnOk result (GoesOut view pages.now.keys (plain page.old.items) (plain page.new.items) (P.kept writer.old) (P.kept writer.new)) }
     ensures err { OnErr result ((rest : Counted) → IsPartly (P.kept writer.old) (map (Writes view) (pages_of pages.now.keys (plain page.old.items ++ rest))) (P.kept writer.new)) }
@@ -79,6 +81,7 @@ fn close_last<P: Publish, R: Wait>(
     requires few { length page.old.items ≤ pages.now.keys }
     requires good { 1 ≤ length page.old.items → is_page (plain page.old.items) ≡ true }
     ensures home { P.home writer.new ≡ P.home writer.old }
+    ensures refused_ends { P.refused_ends writer.new ≡ P.refused_ends writer.old }
     ensures out { OnOk result (P.kept writer.new ≡ goes_out (P.kept writer.old) (map (Writes view) (pages_of pages.now.keys (plain page.old.items))) None) }
     ensures err { OnErr result (IsPartly (P.kept writer.old) (map (Writes view) (pages_of pages.now.keys (plain page.old.items))) (P.kept writer.new)) }
 {
@@ -115,6 +118,7 @@ pub(crate) fn publish_change<P: Publish, R: Wait>(
     requires some { 1 ≤ pages.now.keys }
     requires good { AreGoodPages pages.now.keys (counts_in table.now change.now) }
     ensures home { P.home writer.new ≡ P.home writer.old }
+    ensures refused_ends { P.refused_ends writer.new ≡ P.refused_ends writer.old }
     ensures out { OnOk result (P.kept writer.new ≡ goes_out (P.kept writer.old) (map (Writes view) (pages_of pages.now.keys (counts_in table.now change.now))) None) }
     ensures err { OnErr result (IsPartly (P.kept writer.old) (map (Writes view) (pages_of pages.now.keys (counts_in table.now change.now))) (P.kept writer.new)) }
 {

@@ -1,98 +1,48 @@
-//! A night that runs while readers go through the tables of before.
+//! Runs a night while readers go through the tables of before.
 
-ghost use Rattle.std.specs.Prelude.{◌≡◌, ◌⊎◌, ◌≤◌, ℕ, [], Ok, None, Some, length, replicate, IfErr, IfOk, IfSome, IsTrue, MatchResult, OnOk};
-ghost use Rattle.std.specs.List.{All};
-ghost use Rattle.std.specs.Thread.{IsSync};
+ghost use Rattle.std.specs.Prelude.{◌≡◌, ◌⊎◌, ◌≤◌, ℕ, [], Ok, Some, replicate, IfErr, IfOk, IfSome, MatchResult};
 ghost use Rattle.wh_maint.specs.Asked.{AreBags};
 ghost use Rattle.wh_maint.specs.Comp.{bag_at};
 ghost use Rattle.wh_maint.specs.declared.fault.MaintFault.TheVariants.{Memory};
 ghost use Rattle.wh_carry.specs.CarriedOut.{IsNightCarried};
 ghost use Rattle.wh_carry.specs.Fit.{AreFitFor, AreFitTables};
 ghost use Rattle.wh_carry.specs.Night.{Night};
-ghost use Rattle.wh_store.specs.Ledgers.{Warehouse};
 ghost use Rattle.wh_night.specs.Refusals.{IsRefused, IsRefusedSo, left_of};
-ghost use Rattle.wh_night.specs.Tonight.{newest_in, night_over};
+ghost use Rattle.wh_night.specs.Tonight.{night_over};
 ghost use Rattle.wh_store.specs.Kept.{AreTables};
-ghost use Rattle.wh_night.specs.Serving.{rows_of};
-ghost use Rattle.wh_night.specs.Inner.Serving.{CanRun, IsReady, IsRun, IsSeated, IsServed, newly, opened};
+ghost use Rattle.wh_night.specs.Serving.{ToldOfNight, WereServed, newly, rows_of};
+ghost use Rattle.wh_night.specs.Inner.Serving.{CanRun, IsServed, opened};
 
 use crate::alone::night_alone;
+use crate::beside::{Beside, night_beside};
 use crate::cause::NightCause;
-use crate::left::{Left, NightFault};
-use crate::means::Asked;
-use crate::reading::read_each;
-use crate::running::night_from;
-use crate::watch::Watch;
+use crate::gate::Gate;
+use crate::left::{Aftermath, NightFault};
+use crate::means::NightRequest;
+use crate::readers::{Given, given_by, seat_readers};
 use std::alloc::Global;
 use std::sync::Wait;
-use std::thread::{Threads, join, join_mut};
+use std::thread::{Threads, join};
 use wh_carry::{Carried, CarryFault, Report};
-use wh_desk::{Desk, Writer, open_with_copy};
+use wh_desk::{Answered, Told, Watch, open_with_copy};
 use wh_formula::{RowTest, RowValue};
 use wh_maint::MaintFault;
 use wh_row::Bag;
 use wh_store::{MIN_VERSIONS, Store};
 
-/// What a night made while readers were served.
+/// The tables and the report of a night, and what the readers beside it were given.
 #[derive(Drop)]
 pub struct Served {
     /// The new tables, one for each view.
     pub tables: Vec<Bag>,
-    /// What each expression did, and the new version.
+    /// The report of what each expression did, with the new version.
     pub report: Report,
-    /// How many distinct rows each reader was given.
+    /// The number of distinct rows that each reader was given.
     pub rows: Vec<usize>,
-}
-
-/// Opens a session of version 0 at each desk. False where one has no answer, or another version.
-fn sit_down(desks: &mut Vec<Desk>) -> bool
-    ensures len { length desks.new.items ≡ length desks.old.items }
-    ensures seated { IsTrue result → (of : Warehouse) → All (λ d. d.of ≡ of) desks.old.items → All (IsSeated of) desks.new.items }
-{
-    for place in 0..desks.len() {
-        let Ok(0) = desks[place].open() else {
-            return false;
-        };
-    }
-    true
-}
-
-/// Runs a night from these tables while desks go through all views, each in a thread of its own where one can be started, and else
-/// after the night.
-fn beside_readers<F: RowTest, G: RowValue, W: Watch + Sync, R: Threads + Wait + Sync>(
-    asked: &Asked<'_, F, G, W, R>,
-    writer: &mut Writer,
-    desks: &mut Vec<Desk>,
-    tables: &mut Vec<Bag>,
-) -> (Option<Vec<usize>>, Result<Carried, NightFault>)
-    requires seated { All (IsReady (length tables.old.items)) desks.old.items }
-    requires same { All (λ d. d.of ≡ writer.old.ledger.of) desks.old.items }
-    requires current { tables.old.items ≡ newest_in writer.old.ledger }
-    requires ready { CanRun asked.now.catalog.now asked.now.correct.now writer.old.ledger asked.now.changes.now asked.now.budget.now.threads asked.now.page_keys }
-    ensures rows { IfSome result.0 (λ rows. rows.items ≡ replicate (length desks.old.items) (rows_of writer.old.ledger.of.opening)) }
-    ensures night { IsRun asked.now.catalog.now asked.now.correct.now.list writer.old.ledger asked.now.changes.now asked.now.page_keys result.1 writer.new.ledger }
-{
-    let rt = asked.budget.rt;
-    let alloc = asked.budget.alloc;
-    let watch = asked.gate;
-    let views = tables.len();
-    join_mut(
-        rt,
-        &mut || -> Option<Vec<usize>>
-            requires { IsSync R.row × IsSync W.row × All (IsReady views) desks.now.items }
-            ensures { (of : Warehouse) → All (λ d. d.of ≡ of) desks.entry.now.items → IfSome result (λ rows. rows.items ≡ replicate (length desks.entry.now.items) (rows_of of.opening)) }
-        {
-            let seated = std::mem::replace(desks, Vec::new(alloc));
-            read_each(rt, alloc, seated, views, watch)
-        },
-        &mut || -> Result<Carried, NightFault>
-            requires { CanRun asked.now.catalog.now asked.now.correct.now writer.now.ledger asked.now.changes.now asked.now.budget.now.threads asked.now.page_keys × (tables.now.items ≡ newest_in writer.now.ledger) }
-            ensures { IsRun asked.entry.now.catalog.now asked.entry.now.correct.now.list writer.entry.now.ledger asked.entry.now.changes.now asked.entry.now.page_keys result writer.exit.now.ledger }
-        {
-            let current = std::mem::replace(tables, Vec::new(alloc));
-            night_from(writer, asked, current)
-        },
-    )
+    /// How each reader was answered.
+    pub answered: Vec<Option<Answered>>,
+    /// What the warehouse's writer has published; `None` where there were no readers, and so no warehouse.
+    pub published: Option<Told>,
 }
 
 /// Want of memory, of a night that leaves nothing.
@@ -111,9 +61,9 @@ fn refusal(refused: NightFault) -> CarryFault
 {
     let NightFault { cause, left } = refused;
     let started = match left {
-        Left::Untouched => false,
-        Left::GivenUp => true,
-        Left::StillOpen => return want_of_memory(),
+        Aftermath::Untouched => false,
+        Aftermath::GivenUp => true,
+        Aftermath::StillOpen => return want_of_memory(),
     };
     let fault = match cause {
         NightCause::Large(view) => MaintFault::Large(view),
@@ -124,23 +74,27 @@ fn refusal(refused: NightFault) -> CarryFault
     CarryFault { fault, started }
 }
 
-/// What a night made, with what readers were given.
+/// What a night made, with what readers were given and what was told of the published list.
 fn answer_of(
     night: Result<Carried, NightFault>,
-    rows: Option<Vec<usize>>,
+    given: Option<Given>,
+    told: Told,
 ) -> Result<Served, CarryFault>
-    ensures ok { IfOk result (λ s. (night ≡ Ok (record { tables = s.tables; report = s.report })) × (rows ≡ Some s.rows)) }
+    ensures ok { IfOk result (λ s. (night ≡ Ok (record { tables = s.tables; report = s.report })) × (given ≡ Some (record { rows = s.rows; answered = s.answered }))) }
+    ensures told { IfOk result (λ s. s.published ≡ Some told) }
     ensures err { IfErr result (λ f. MatchResult night (λ _. f.fault ≡ Memory) (λ g. (n : Night) → IsRefused n g → (f.fault ≡ Memory) ⊎ IsRefusedSo n (left_of f.started) f.fault)) }
 {
     match night {
         Ok(Carried { tables, report }) => {
-            let Some(rows) = rows else {
+            let Some(Given { rows, answered }) = given else {
                 return Err(want_of_memory());
             };
             Ok(Served {
                 tables,
                 report,
                 rows,
+                answered,
+                published: Some(told),
             })
         }
         Err(refused) => Err(refusal(refused)),
@@ -148,8 +102,8 @@ fn answer_of(
 }
 
 /// A night without readers, over the tables as they lie.
-fn serve_none<F: RowTest, G: RowValue, W: Watch + Sync, R: Threads + Sync>(
-    asked: &Asked<'_, F, G, W, R>,
+fn serve_none<F: RowTest, G: RowValue, W: Gate + Watch + Sync, R: Threads + Sync>(
+    asked: &NightRequest<'_, F, G, W, R>,
     tables: Vec<Bag>,
 ) -> Result<Served, CarryFault>
     requires judged { asked.now.correct.now.children ≡ asked.now.catalog.now.views.children }
@@ -168,6 +122,8 @@ fn serve_none<F: RowTest, G: RowValue, W: Watch + Sync, R: Threads + Sync>(
         tables,
         report,
         rows: Vec::new(asked.budget.alloc),
+        answered: Vec::new(asked.budget.alloc),
+        published: None,
     })
 }
 
@@ -203,8 +159,8 @@ fn two_stores<R: Threads + Sync>(rt: &R, alloc: Global, tables: &[Bag]) -> Optio
 }
 
 /// A night beside one reader at least, over new stores of these tables.
-fn serve_some<F: RowTest, G: RowValue, W: Watch + Sync, R: Threads + Wait + Sync>(
-    asked: &Asked<'_, F, G, W, R>,
+fn serve_some<F: RowTest, G: RowValue, W: Gate + Watch + Sync, R: Threads + Wait + Sync>(
+    asked: &NightRequest<'_, F, G, W, R>,
     stores: (Store, Store),
     tables: Vec<Bag>,
     readers: usize,
@@ -216,35 +172,38 @@ fn serve_some<F: RowTest, G: RowValue, W: Watch + Sync, R: Threads + Wait + Sync
     requires most { readers ≤ 16 }
     ensures run { IfOk result (IsServed asked.now.catalog.now asked.now.correct.now.list (newly tables.items) asked.now.changes.now asked.now.page_keys) }
     ensures rows { IfOk result (λ s. s.rows.items ≡ replicate readers (rows_of tables.items)) }
+    ensures served { IfOk result (λ s. WereServed tables.items readers s.answered.items s.rows.items) }
     ensures refused { IfErr result (λ f. (f.fault ≡ Memory)
         ⊎ IsRefusedSo (night_over asked.now.catalog.now asked.now.correct.now.list tables.items asked.now.changes.now asked.now.page_keys) (left_of f.started) f.fault) }
 {
     let rt = asked.budget.rt;
+    let alloc = asked.budget.alloc;
     let (store, copy) = stores;
-    let Ok((mut writer, mut desks)) = open_with_copy(rt, asked.budget.alloc, store, copy, readers)
-    else {
+    let Ok((mut writer, desks)) = open_with_copy(rt, alloc, store, copy, readers) else {
         return Err(want_of_memory());
     };
-    if !sit_down(&mut desks) {
+    let Some(askers) = seat_readers(alloc, desks, tables.len()) else {
         writer.end(rt);
         return Err(want_of_memory());
-    }
-    let mut tables = tables;
-    let (rows, night) = beside_readers(asked, &mut writer, &mut desks, &mut tables);
+    };
+    let Beside { night, answered } = night_beside(asked, &mut writer, askers, tables);
+    let told = writer.tell();
     writer.end(rt);
-    answer_of(night, rows)
+    answer_of(night, given_by(alloc, answered), told)
 }
 
-/// Runs a night over a new warehouse of these tables while readers go through them: one bag for each view, fit for the night, as
-/// the contents of a base are for every night (`are_fit_for` tests it). There is a change for each view; those of derived views are
-/// not read. The strategy was judged over this catalogue's shape (`is_of` tests it).
+/// Runs a night over a new warehouse of these tables while readers go through them. There is one bag for each view, fit for the night, as
+/// the contents of a base are for every night (`are_fit_for` tests it). There is a change for each view; those of derived views are not
+/// read. The strategy was judged over this catalogue's shape (`is_of` tests it).
 ///
-/// There are 0 to 16 readers. Each opens its session before the night begins, and reads each view once, in pages of 256 rows. The
-/// gate is a [`Watch`]: it is told of each job, and before a reader's first page and after its last; readers for which no thread can
-/// be started read after the night. The night goes wave by wave and is refused as [`crate::night`] refuses it; want of memory is also told
-/// where a reader was not answered. Where there are no readers the tables are changed where they lie, and none is copied.
-pub fn serve_night<F: RowTest, G: RowValue, W: Watch + Sync, R: Threads + Wait + Sync>(
-    asked: &Asked<'_, F, G, W, R>,
+/// There are 0 to 16 readers. Each opens its session before the night begins, and by [`night_beside`] reads each view once, in pages of 256
+/// rows. The gate is told of each job, and as a [`Watch`] before a reader's first page and after its last. The night publishes pages of
+/// `page_keys` rows at most, and its writer tells what it has published. Where there are no readers the tables are changed where they lie,
+/// and none is copied or published.
+///
+/// Fails as [`crate::night`] does. Want of memory is also told where a reader was not answered.
+pub fn serve_night<F: RowTest, G: RowValue, W: Gate + Watch + Sync, R: Threads + Wait + Sync>(
+    asked: &NightRequest<'_, F, G, W, R>,
     tables: Vec<Bag>,
     readers: usize,
 ) -> Result<Served, CarryFault>
@@ -259,6 +218,8 @@ pub fn serve_night<F: RowTest, G: RowValue, W: Watch + Sync, R: Threads + Wait +
     requires readers { readers ≤ 16 }
     ensures carried { IfOk result (λ s. IsNightCarried asked.now.catalog.now asked.now.correct.now.list tables.items asked.now.changes.now s.tables.items s.report) }
     ensures rows { IfOk result (λ s. s.rows.items ≡ replicate readers (rows_of tables.items)) }
+    ensures served { IfOk result (λ s. 1 ≤ readers → WereServed tables.items readers s.answered.items s.rows.items) }
+    ensures published { IfOk result (λ s. 1 ≤ readers → ToldOfNight asked.now.catalog.now asked.now.correct.now.list tables.items asked.now.changes.now asked.now.page_keys s.report s.published) }
     ensures refused { IfErr result (λ f. (f.fault ≡ Memory)
         ⊎ IsRefusedSo (night_over asked.now.catalog.now asked.now.correct.now.list tables.items asked.now.changes.now asked.now.page_keys) (left_of f.started) f.fault) }
 {

@@ -1,15 +1,16 @@
-//! A night's stages, one after another: what each carries out, and what goes out of it.
+//! Goes through a night's stages, one after another: what each carries out, and what goes out of it.
 
 ghost use Rattle.std.specs.Prelude.{◌≡◌, ◌≤◌, ◌++◌, ◌∷◌, [], ℕ, List, Some, length, slice_get, OnOk, IfErr, IfSome};
 ghost use Rattle.wh_carry.specs.Kept.{kept, HaveParts, CanFinish};
 ghost use Rattle.wh_carry.specs.Waves.{stages_of};
 ghost use Rattle.wh_carry.specs.declared.stages.Stage.{Stage as StageOf};
-ghost use Rattle.wh_carry.specs.Standing.{IsStageIn, place_behind};
+ghost use Rattle.wh_carry.specs.Stages.{place_behind};
+ghost use Rattle.wh_carry.specs.Standing.{IsStageIn};
 ghost use Rattle.wh_night.specs.Inner.Underway.{CanPublish, Given, HasBegun, IsAt, IsHalted, night_given};
 
 use crate::gate::Gate;
 use crate::insts::inst;
-use crate::means::{Asked, Progress};
+use crate::means::{NightRequest, Progress};
 use crate::outlet::Outlet;
 use crate::waves::wave;
 use std::thread::Threads;
@@ -21,7 +22,7 @@ use wh_maint::MaintFault;
 fn stage_of<W, O: Outlet<W>, F: RowTest, G: RowValue, T: Gate + Sync, R: Threads + Sync>(
     outlet: &O,
     writer: &mut W,
-    asked: &Asked<'_, F, G, T, R>,
+    asked: &NightRequest<'_, F, G, T, R>,
     stage: &Stage,
     progress: &mut Progress,
 ) -> Result<(), MaintFault>
@@ -53,7 +54,7 @@ fn stage_of<W, O: Outlet<W>, F: RowTest, G: RowValue, T: Gate + Sync, R: Threads
 pub(crate) fn through<W, O: Outlet<W>, F: RowTest, G: RowValue, T: Gate + Sync, R: Threads + Sync>(
     outlet: &O,
     writer: &mut W,
-    asked: &Asked<'_, F, G, T, R>,
+    asked: &NightRequest<'_, F, G, T, R>,
     stages: &[Stage],
     progress: &mut Progress,
 ) -> Result<(), MaintFault>

@@ -1,4 +1,4 @@
-//! What is asked of the jobs of a wave, and of the tables of a night.
+//! Tests what is asked of the jobs of a wave, and of the tables of a night.
 
 ghost use Rattle.std.specs.Prelude.{◌≡◌, ◌⊎◌, ◌↔◌, ◌<◌, false, length, IfOk, IfErr, IsTrue};
 ghost use Rattle.wh_maint.specs.Asked.{AreBags};
@@ -52,8 +52,9 @@ fn is_ready<F: RowTest, G: RowValue>(catalog: &Catalog<F, G>, job: &Job, state: 
         && are_known(views, state, sources)
 }
 
-/// Whether these jobs can be run as a wave: each is the Comp of a derived view from some of its children, none twice, whose changes are
-/// known. Takes O(j C²) for j jobs with at most C sources each, of views of at most C children.
+/// Tells whether these jobs can be run as a wave: each is the Comp of a derived view from some of its children, none twice, whose changes
+/// are known.
+/// Takes O(j C²) for j jobs with at most C sources each, of views of at most C children.
 pub fn can_run_wave<F: RowTest, G: RowValue>(
     catalog: &Catalog<F, G>,
     jobs: &[Job],
@@ -81,10 +82,12 @@ fn are_all_fit<F: RowTest, G: RowValue>(
     are_fit(alloc, catalog, tables).map_err(|_| MaintFault::Memory)
 }
 
-/// Whether these tables are fit for this night: each is fit, and, unless a base change is refused, the strategy leaves them so. The
-/// night is carried out on copies to see it; where an expression of it is refused, that is answered instead: a night would be refused
-/// too, perhaps for another expression of the same wave. There is a table and a change for each view, and the strategy was judged over
-/// this catalogue's shape. The contents of a base are fit for every night.
+/// Tells whether these tables are fit for this night: each is fit, and, unless a base change is refused, the strategy leaves them so. There
+/// is a table and a change for each view, and the strategy was judged over this catalogue's shape. The contents of a base are fit for every
+/// night.
+///
+/// The night is carried out on copies to see it. Fails with the fault of an expression that is refused there: a night would be refused too,
+/// perhaps for another expression of the same wave.
 pub fn are_fit_for<F: RowTest, G: RowValue>(
     alloc: Global,
     catalog: &Catalog<F, G>,

@@ -1,4 +1,4 @@
-//! Waves: the changes of their sources first, then what each job computes, and then all of it is added.
+//! Carries waves out: the changes of their sources first, then what each job computes, and then all of it is added.
 
 ghost use Rattle.std.specs.Prelude.{◌≡◌, ◌≢◌, ◌⊎◌, ◌+◌, ◌<◌, ◌≤◌, ◌++◌, ◌∷◌, [], ◌^◌, ℕ, List, true, length, map, OnOk, IfOk, IfErr, Err};
 ghost use Rattle.std.specs.Thread.{IsSync};
@@ -25,7 +25,7 @@ ghost use Rattle.wh_night.specs.Underway.{IsAdded, AreAdded, SourcesAreKnown};
 ghost use Rattle.wh_night.specs.Inner.Underway.{Given, night_given, HasCome, Reports, SourcesFinish};
 
 use crate::gate::Gate;
-use crate::means::{Asked, Progress};
+use crate::means::{NightRequest, Progress};
 use std::alloc::{AllocError, Global};
 use std::thread::Threads;
 use wh_carry::{Job, NightState};
@@ -123,11 +123,12 @@ fn shared_out(jobs: usize, workers: usize) -> (usize, usize)
     (workers, 1)
 }
 
-/// Computes what each job of a wave adds, over the tables and the changes of a night, where those of the jobs' sources are known. The
-/// jobs are drawn by as many workers as the budget has threads, 1 to 16, each in a thread, of which the caller's is one; what they add
-/// comes in the order of the jobs. The gate is told of each job in the worker's thread. A wave of one job is drawn by the caller, and
-/// its rows are made by all threads of the budget. All jobs are done, so that the refusal of the lowest number is answered, whichever
-/// came first; memory may be refused instead. A wave of no jobs is not refused.
+/// Computes what each job of a wave adds, over the tables and the changes of a night, where those of the jobs' sources are known. What the
+/// jobs add comes in their order.
+/// The jobs are drawn by as many workers as the budget has threads, 1 to 16, each in a thread, of which the caller's is one. The gate is
+/// told of each job in the worker's thread. A wave of one job is drawn by the caller, and its rows are made by all threads of the budget.
+/// Fails with the refusal of the lowest number, whichever came first, since all jobs are done. Memory may be refused instead. A wave of no
+/// jobs is not refused.
 pub fn run_wave<F: RowTest, G: RowValue, T: Gate + Sync, R: Threads + Sync>(
     budget: &ThreadBudget<'_, R>,
     catalog: &Catalog<F, G>,
@@ -238,7 +239,7 @@ fn add_all<F: RowTest, G: RowValue>(
 /// Carries a wave out: finishes the views that its jobs are from, computes what the jobs add, and then adds it. The first
 /// refusal ends it.
 pub(crate) fn wave<F: RowTest, G: RowValue, T: Gate + Sync, R: Threads + Sync>(
-    asked: &Asked<'_, F, G, T, R>,
+    asked: &NightRequest<'_, F, G, T, R>,
     jobs: &[Job],
     progress: &mut Progress,
 ) -> Result<(), MaintFault>
@@ -259,7 +260,7 @@ pub(crate) fn wave<F: RowTest, G: RowValue, T: Gate + Sync, R: Threads + Sync>(
     finish_sources(alloc, catalog, jobs, &mut progress.state)?;
     // It is for time alone, so where memory is refused the wave goes on without it.
     let workers = asked.budget.threads.min(jobs.len());
-    let _ = progress.state.lay_out(alloc, catalog, jobs, workers);
+    let _ = progress.state.build_indexes(alloc, catalog, jobs, workers);
     let added = run_wave(asked.budget, catalog, jobs, &progress.state, asked.gate)?;
     add_all(
         alloc,

@@ -8,7 +8,7 @@ use Rattle.std.specs.declared.cmp.Ordering.TheVariants.{Less, Equal, Greater}
 use Rattle.wh_pieces.specs.Row.{Row, row_cmp, is_row}
 use Rattle.wh_pieces.specs.Place.{AreRisingRows}
 use Rattle.wh_pieces.specs.Inner.Place.{IsFirst}
-use Rattle.wh_pieces.specs.Pieces.{found, with_entry, without_entry}
+use Rattle.wh_pieces.specs.Pieces.{found, with_entry, without_entry, remade}
 use Rattle.wh_pieces.specs.Merged.{IsCombined}
 use Rattle.wh_pieces.specs.Inner.Merged.{lacking, either, without}
 use Rattle.wh_pieces.proofs.RowLaws.{rows_exact, rows_total, same_row, itself}
@@ -56,6 +56,11 @@ found-without es fs r e gone q = elim (is_row q r) as (λ t. is_row q r ≡ t �
   | true ↦ λ t. ap (λ x. found x fs) (same_row q r t) ∙ gone
   | false ↦ λ t. ap (found q) e ∙ found-other es r q t
 ] refl
+
+-- with what is made of a row, which is then found there
+pub found-remade : {T : Type 0} (es fs : List (Row × T)) (r : Row) (o : Option T) → fs ≡ remade es r o → found r fs ≡ o → (q : Row) → found q fs ≡ cond (is_row q r) o (found q es)
+found-remade es fs r None is there q = found-without es fs r is there q
+found-remade es fs r (Some v) is there q = ap (found q) is ∙ found-with es r v q
 
 pub found-append : {T : Type 0} (a b : List (Row × T)) (q : Row) → found q (a ++ b) ≡ either (found q a) (found q b)
 found-append [] b q = refl

@@ -16,11 +16,11 @@ either_none (Some v) = refl
 
 module _ {T : Type 0} (row : Row) (value : T) (old : List (Row × T)) (q : Row) where
   -- the row stood there, and has its value again
-  pub here_kept : (now : Option T) (s v : T) → found row old ≡ Some s → v ≡ s → now ≡ cond (is_row q row) (Some v) (found q old) → now ≡ either (found q old) (cond (is_row q row) (Some value) None)
-  here_kept now s v stood is e = e ∙ elim (is_row q row) as (λ t. is_row q row ≡ t → cond t (Some v) (found q old) ≡ either (found q old) (cond t (Some value) None)) [
+  pub here_kept : (now : Option T) (s : T) → found row old ≡ Some s → now ≡ cond (is_row q row) (Some s) (found q old) → now ≡ either (found q old) (cond (is_row q row) (Some value) None)
+  here_kept now s stood e = e ∙ elim (is_row q row) as (λ t. is_row q row ≡ t → cond t (Some s) (found q old) ≡ either (found q old) (cond t (Some value) None)) [
     | true ↦ λ t.
         let there : found q old ≡ Some s = ap (λ x. found x old) (same_row q row t) ∙ stood in
-        ap Some is ∙ sym (ap (λ x. either x (Some value)) there)
+        sym (ap (λ x. either x (Some value)) there)
     | false ↦ λ t. sym (either_none (found q old))
   ] refl
 

@@ -1,5 +1,5 @@
 -- Pieces of entries, one after another.
-use Rattle.std.specs.Prelude.{◌≡◌, ℕ, List, [], ◌∷◌, ◌++◌, length, Option, filter}
+use Rattle.std.specs.Prelude.{◌≡◌, ℕ, List, [], ◌∷◌, ◌++◌, length, Option, Some, None, filter}
 use Rattle.std.specs.Ordering.{is_lt, is_le}
 use Rattle.std.specs.List.{AllByRecursion}
 use Rattle.std.specs.Map.{lookup, remove_entry}
@@ -18,6 +18,11 @@ with_entry es row v = insert_entry row_cmp es row v
 abbrev pub without_entry : {T : Type 0} → List (Row × T) → Row → List (Row × T)
 without_entry es row = remove_entry (is_row row) es
 
+-- the entries with what is made of the row: this value, or no such row
+abbrev pub remade : {T : Type 0} → List (Row × T) → Row → Option T → List (Row × T)
+remade es row None = without_entry es row
+remade es row (Some v) = with_entry es row v
+
 abbrev pub all_of : {T : Type 0} → List (List (Row × T)) → List (Row × T)
 all_of [] = []
 all_of (l ∷ ls) = l ++ all_of ls
@@ -34,7 +39,7 @@ from row es = filter (λ e. is_le (row_cmp row e.0)) es
 abbrev pub AreWide : {T : Type 0} → ℕ → List (Row × T) → Type 0
 AreWide width es = AllByRecursion (λ e. length e.0 ≡ width) es
 
--- the same rows, each with a value that is made of the one there as P says
+-- both lists have the same rows, and each value of the second is made of the one of the first as P says
 abbrev pub AreRevalued : {T U : Type 0} → (T → U → Type 0) → List (Row × T) → List (Row × U) → Type 0
 AreRevalued P [] [] = Unit {0}
 AreRevalued P [] (f ∷ fs) = ⊥

@@ -1,4 +1,5 @@
-//! A small map brought into a large one, row by row.
+//! Brings a small map into a large one, row by row. What a large map has beside the rows of the small one is neither walked through nor
+//! copied.
 
 ghost use Rattle.std.specs.Prelude.{◌≡◌, ◌++◌, List, ℤ, Some, None, cond, OnOk, OnErr, IfOk};
 ghost use Rattle.wh_pieces.specs.Row.{is_row};
@@ -7,13 +8,13 @@ ghost use Rattle.wh_pieces.specs.Pieces.{found};
 ghost use Rattle.wh_pieces.specs.Merged.{AreMerged, HaveRowsOf};
 ghost use Rattle.wh_pieces.specs.Inner.Merged.{entry_of, lacking, either, without};
 
-use crate::pieces::Pieces;
+use crate::pieces::RowMap;
 use std::alloc::AllocError;
 
-impl<T: Copy + Drop> Pieces<T> {
-    /// Merges another map into this one, row by row, which serves where the other is much smaller.
-    /// Where both have a row, `combine` gives its value, or none where the row is to be left out.
-    /// Takes the time of m inserts, O(m w log(n + m)), for the other's m rows beside n, of w cells.
+impl<T: Copy + Drop> RowMap<T> {
+    /// Merges another map into this one, row by row, which serves where the other is much smaller. Where both have a row, `combine` gives
+    /// its value, or none where the row is to be left out. An error, for want of memory, leaves this map as it was; there is none where
+    /// each row of the other is here. Takes the time of m inserts, O(m w log(n + m)), for the other's m rows beside n, of w cells.
     pub fn merge<F: Fn(T, T) -> Option<T>>(
         &mut self,
         other: &Self,
@@ -39,7 +40,7 @@ impl<T: Copy + Drop> Pieces<T> {
         Ok(())
     }
 
-    /// Puts in the entries of another map whose rows are not here, and gives them; where it fails, none of them.
+    /// Puts in the entries of another map whose rows are not here, and gives them. Where it fails, none of them stays.
     fn bring(&mut self, other: &Self) -> Result<Self, AllocError>
         ensures brought { IfOk result (λ brought. (q : List ℤ) → found q brought ≡ lacking (found q self.old) (found q other.now)) }
         ensures ok { OnOk result ((q : List ℤ) → found q self.new ≡ either (found q self.old) (found q other.now)) }
@@ -58,7 +59,7 @@ impl<T: Copy + Drop> Pieces<T> {
         Ok(brought)
     }
 
-    /// Puts in a row that is not here, and notes it behind those that are noted; where it fails, neither.
+    /// Puts in a row that is not here, and notes it behind those that are noted. Where it fails, it does neither.
     fn bring_row(&mut self, row: &[i64], value: T, noted: &mut Self) -> Result<(), AllocError>
         requires { IsAbove row.now noted.old }
         ensures here { OnOk result ((q : List ℤ) → found q self.new ≡ either (found q self.old) (cond (is_row q row.now) (Some value) None)) }
@@ -70,9 +71,9 @@ impl<T: Copy + Drop> Pieces<T> {
         let stood = self.insert_or(
             row,
             value,
-            &move |old: T| -> T
-                ensures { result ≡ old }
-            { old },
+            &move |old: T| -> Option<T>
+                ensures { result ≡ Some old }
+            { Some(old) },
         )?;
         if stood.is_some() {
             return Ok(());

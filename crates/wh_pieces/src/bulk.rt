@@ -1,4 +1,4 @@
-//! Pieces cut from rows that stand side by side.
+//! Cuts pieces from rows that stand side by side, so that a map of many rows is made without a search for each.
 
 ghost use Rattle.std.specs.Prelude.{◌≡◌, ◌≢◌, ◌*◌, [], length, IfOk, OnErr};
 ghost use Rattle.wh_pieces.specs.Flat.{flat};
@@ -11,7 +11,7 @@ use std::alloc::{AllocError, Global};
 /// How many rows a piece gets: some room is left for rows in between.
 const FILLED: usize = 192;
 
-/// The pieces of these rows of one width, whose cells stand side by side.
+/// Cuts rows of one width, whose cells stand side by side, into pieces.
 pub(crate) fn cut<T: Copy + Drop>(
     alloc: Global,
     width: usize,

@@ -1,4 +1,4 @@
-//! The entries of a map, lent one after another.
+//! Lends the entries of a map one after another, so that they are walked through without a copy.
 
 ghost use Rattle.std.specs.Prelude.{◌≡◌, ◌<◌, ◌≤◌, ◌↔◌, [], ◌∷◌, ◌++◌, length, drop, IsTrue, MatchOption};
 ghost use Rattle.std.specs.Iterator.{YieldsFirstBy, item_count};
@@ -37,7 +37,7 @@ impl<'a, T> Model for Entries<'a, T> {
 }
 
 impl<'a, T: Copy + Drop> Entries<'a, T> {
-    /// No entries.
+    /// Makes a walk over no entries. Takes no memory.
     pub fn none() -> Self
         ensures { result ≡ [] }
     {
@@ -47,7 +47,7 @@ impl<'a, T: Copy + Drop> Entries<'a, T> {
         }
     }
 
-    /// The entries of pieces, from a place in the first of them on.
+    /// Makes a walk over the entries of pieces, from a place in the first of them on.
     pub(crate) fn new(pieces: &'a [Piece<T>], place: usize) -> Self
         requires some { AreNotEmpty pieces.now }
         requires within { place ≤ length (piece_at pieces.now 0) }
@@ -65,7 +65,7 @@ impl<'a, T: Copy + Drop> Entries<'a, T> {
         Entries { pieces, place }
     }
 
-    /// The first of these entries.
+    /// Returns the first of these entries, which stays; none where there are no more.
     pub fn first(&self) -> Option<(&'a [i64], T)>
         ensures { MatchOption result (self.now ≡ []) (λ e. self.now ≡ lent e ∷ drop 1 self.now) }
     {
@@ -73,7 +73,7 @@ impl<'a, T: Copy + Drop> Entries<'a, T> {
         Some(piece.get(self.place))
     }
 
-    /// Whether the first of these entries is that of the row.
+    /// Returns whether the first of these entries is that of the row.
     pub(crate) fn begin_with(&self, row: &[i64]) -> bool
         ensures { IsTrue result ↔ IsFirst row.now self.now }
     {
@@ -86,8 +86,8 @@ impl<'a, T: Copy + Drop> Entries<'a, T> {
         }
     }
 
-    /// The next of these entries that stand side by side, at most this many, which are left behind: their width, their cells, and
-    /// their values. None where there are none.
+    /// Leaves behind the next of these entries that stand side by side, at most `most`, and returns their width, their cells and their
+    /// values. None where no entry is left. Takes O(1) time and no memory.
     pub fn run(&mut self, most: usize) -> Option<(usize, &'a [i64], &'a [T])>
         requires { 0 < most }
         ensures { MatchOption result ((self.old ≡ []) × (self.new ≡ [])) (λ r. IsRun most self.old self.new r.0 r.1.now r.2.now) }
@@ -107,8 +107,8 @@ impl<'a, T: Copy + Drop> Entries<'a, T> {
         Some(run)
     }
 
-    /// The same entries, to be walked through another time. Takes no memory.
-    pub fn again(&self) -> Self
+    /// Makes a second walk over the entries that are left of this one. Takes no memory.
+    pub fn fork(&self) -> Self
         ensures { result ≡ self.now }
     {
         Entries {
@@ -117,8 +117,8 @@ impl<'a, T: Copy + Drop> Entries<'a, T> {
         }
     }
 
-    /// These entries in two: those up to a border of pieces near this part of all pieces, and those from there on. Either may be
-    /// none. Takes O(1) time and no memory.
+    /// Cuts these entries in two: those up to a border of pieces near this part of all pieces, and those from there on. Either may be none.
+    /// Takes O(1) time and no memory.
     pub fn split(self, part: usize, of: usize) -> (Self, Self)
         ensures { self.entry ≡ result.0 ++ result.1 }
     {
@@ -139,7 +139,7 @@ impl<'a, T: Copy + Drop> Entries<'a, T> {
         (sooner, later)
     }
 
-    /// Leaves the first of these entries behind.
+    /// Leaves the first of these entries behind; does nothing where none is left.
     pub fn pass(&mut self)
         ensures { self.new ≡ drop 1 self.old }
     {

@@ -1,8 +1,8 @@
-//! Where to look for a row among rows that rise.
+//! Says where to look for a row among rows that rise, so that a search takes few looks where rows lie evenly.
 
 ghost use Rattle.std.specs.Prelude.{◌<◌, ◌≤◌};
 
-/// The place to ask next of those from `low` up to `high`: the one that is thought likely, else the middle.
+/// Returns the place to ask next of those from `low` up to `high`: the one that is thought likely, else the middle.
 pub(crate) fn place_to_ask(low: usize, high: usize, likely: usize) -> usize
     requires { low < high }
     ensures from { low ≤ result }
@@ -14,11 +14,11 @@ pub(crate) fn place_to_ask(low: usize, high: usize, likely: usize) -> usize
     low + (high - low) / 2
 }
 
-/// How many rows there are to be before it is reckoned where one of them stands.
+/// How many rows there have to be before it is reckoned where one of them stands.
 const SOME: usize = 8;
 
-/// About where a row stands among so many, of which the first and the last are these, if their first cells lie evenly, as numbers that
-/// are given out one after another do. It makes a search faster or slower and changes no answer.
+/// Returns about where a row stands among `count` rows, of which `first` and `last` are the ends. It is right where first cells lie evenly,
+/// as numbers that are given out one after another do. It makes a search faster or slower and changes no answer.
 pub(crate) fn likely_place(row: &[i64], first: &[i64], last: &[i64], count: usize) -> usize
     ensures { result ≤ count }
 {
@@ -42,10 +42,11 @@ pub(crate) fn likely_place(row: &[i64], first: &[i64], last: &[i64], count: usiz
     }
 }
 
-/// How many places a search goes on the second time, and so many times more each time after it.
+/// How far a search goes on the second time, and how many times further each time after it.
 const LEAP: usize = 16;
 
-/// The steps of a search: places near the likely one are asked first, so that one that is nearly right is made right by a few looks.
+/// Makes the step of a search longer. Places near the likely one are asked first, so that one that is nearly right is made right by a few
+/// looks.
 pub(crate) fn longer(step: usize) -> usize {
     step.saturating_mul(LEAP)
 }

@@ -1,4 +1,4 @@
-//! A piece of a map: rows of one width, side by side.
+//! A piece of a map: rows of one width, side by side, so that a row is no object of its own.
 
 ghost use Rattle.std.specs.Prelude.{◌≡◌, ◌<◌, ◌≤◌, ◌+◌, ◌*◌, ◌↔◌, [], ◌∷◌, ◌++◌, length, take, drop, slice_get, Some, IfOk, OnOk, OnErr, IsTrue, MatchResult, cond};
 ghost use Rattle.std.specs.List.{insert, remove};
@@ -37,7 +37,7 @@ impl<T> Model for Piece<T> {
 }
 
 impl<T: Copy + Drop> Piece<T> {
-    /// One row, with room for so many.
+    /// Makes a piece of one row, with room for `room` of them.
     pub(crate) fn one(alloc: Global, room: usize, row: &[i64], value: T) -> Result<Self, AllocError>
         ensures { IfOk result (λ l. l ≡ (row.now, value) ∷ []) }
     {
@@ -52,7 +52,7 @@ impl<T: Copy + Drop> Piece<T> {
         })
     }
 
-    /// Rows of one width, side by side.
+    /// Makes a piece of rows of one width, whose cells stand side by side. Some room is left behind them.
     pub(crate) fn of(
         alloc: Global,
         width: usize,
@@ -71,21 +71,21 @@ impl<T: Copy + Drop> Piece<T> {
         })
     }
 
-    /// How many rows there are.
+    /// Returns the number of rows.
     pub(crate) fn len(&self) -> usize
         ensures { result ≡ length self.now }
     {
         self.values.len()
     }
 
-    /// Whether each row has this many cells.
-    pub(crate) fn is_width(&self, width: usize) -> bool
+    /// Returns whether each row has this many cells.
+    pub(crate) fn has_width(&self, width: usize) -> bool
         ensures { IsTrue result ↔ AreWide width self.now }
     {
         self.width == width || self.values.is_empty()
     }
 
-    /// The row at a place.
+    /// Returns the row at a place.
     pub(crate) fn row(&self, place: usize) -> &[i64]
         requires { place < length self.now }
         ensures { slice_get (keys_of self.now) place ≡ Some result.now }
@@ -94,7 +94,7 @@ impl<T: Copy + Drop> Piece<T> {
         &self.cells[start..start + self.width]
     }
 
-    /// The row at a place, and its value.
+    /// Returns the row at a place, and its value.
     pub(crate) fn get(&self, place: usize) -> (&[i64], T)
         requires { place < length self.now }
         ensures { slice_get self.now place ≡ Some (result.0.now, result.1) }
@@ -102,7 +102,7 @@ impl<T: Copy + Drop> Piece<T> {
         (self.row(place), self.values[place])
     }
 
-    /// So many rows from a place on: their width, their cells side by side, and their values.
+    /// Returns the `count` rows from a place on: their width, their cells side by side, and their values.
     pub(crate) fn run(&self, place: usize, count: usize) -> (usize, &[i64], &[T])
         requires { place + count ≤ length self.now }
         ensures rows { flat result.0 result.1.now result.2.now ≡ take count (drop place self.now) }
@@ -115,7 +115,7 @@ impl<T: Copy + Drop> Piece<T> {
         (self.width, cells, &self.values[place..end])
     }
 
-    /// Where the row stands, or would go.
+    /// Returns where the row stands, or as an error where it would go. Takes O(w log n) time for n rows of w cells.
     pub(crate) fn find(&self, row: &[i64]) -> Result<usize, usize>
         requires { AreRisingRows self.now }
         ensures { MatchResult result (IsAt row.now self.now) (IsGapFor row.now self.now) }
@@ -143,7 +143,7 @@ impl<T: Copy + Drop> Piece<T> {
         Err(low)
     }
 
-    /// About where the row stands.
+    /// Returns about where the row stands.
     fn likely_place(&self, row: &[i64]) -> usize {
         let count = self.len();
         if count == 0 {
@@ -160,7 +160,8 @@ impl<T: Copy + Drop> Piece<T> {
         self.values[place] = value;
     }
 
-    /// Puts a row to a place, if it has the width of the others and there are fewer than `most`.
+    /// Puts a row to a place, if it has the width of the others and there are fewer than `most`. Returns whether it did. An error, for want
+    /// of memory, leaves the piece as it was.
     pub(crate) fn insert(
         &mut self,
         most: usize,
@@ -184,7 +185,8 @@ impl<T: Copy + Drop> Piece<T> {
         Ok(true)
     }
 
-    /// Puts a row behind the others, if it has their width and there are fewer than `most`. No cell is moved for it.
+    /// Puts a row behind the others, if it has their width and there are fewer than `most`. Returns whether it did. An error, for want of
+    /// memory, leaves the piece as it was. No cell is moved for it.
     pub(crate) fn push(&mut self, most: usize, row: &[i64], value: T) -> Result<bool, AllocError>
         ensures { MatchResult result
             (λ done. self.new ≡ cond done (self.old ++ (row.now, value) ∷ []) self.old)
@@ -210,7 +212,7 @@ impl<T: Copy + Drop> Piece<T> {
         let _ = self.values.remove(place);
     }
 
-    /// A copy of the rows from a place on, with their values.
+    /// Makes a copy of the rows from a place on, with their values.
     pub(crate) fn tail(&self, alloc: Global, place: usize) -> Result<Self, AllocError>
         requires { place ≤ length self.now }
         ensures { IfOk result (λ l. l ≡ drop place self.now) }
@@ -224,7 +226,7 @@ impl<T: Copy + Drop> Piece<T> {
         })
     }
 
-    /// The same rows with other values, made of theirs.
+    /// Makes a piece of these rows, with values that `value_of` makes of theirs.
     pub(crate) fn with_values<U: Copy + Drop, F: Fn(T) -> U>(
         &self,
         alloc: Global,
@@ -245,7 +247,7 @@ impl<T: Copy + Drop> Piece<T> {
         })
     }
 
-    /// Keeps the rows before a place.
+    /// Keeps the rows before a place, and drops the others.
     pub(crate) fn truncate(&mut self, place: usize)
         requires { place ≤ length self.old }
         ensures { self.new ≡ take place self.old }
@@ -255,15 +257,15 @@ impl<T: Copy + Drop> Piece<T> {
     }
 }
 
-/// Room is left for this part of what stands there.
+/// How many times the room that is left goes into what stands there.
 const ROOM: usize = 16;
 
-/// So many, and some room.
+/// Returns `many`, and some room.
 pub(crate) fn and_room(many: usize) -> usize {
     many.saturating_add(many / ROOM)
 }
 
-/// A copy of these with some room behind it, so that the first rows that come in between do not have all moved to another place.
+/// Makes a copy of items with some room behind it, so that the first rows that come in between do not have all moved to another place.
 fn with_room<T: Copy + Drop>(alloc: Global, items: &[T]) -> Result<Vec<T>, AllocError>
     ensures items { IfOk result (λ copy. copy.items ≡ items.now) }
 {
@@ -272,7 +274,7 @@ fn with_room<T: Copy + Drop>(alloc: Global, items: &[T]) -> Result<Vec<T>, Alloc
     Ok(copy)
 }
 
-/// Puts cells before a place.
+/// Puts cells before a place. An error, for want of memory, leaves them as they were.
 fn put_in(cells: &mut Vec<i64>, start: usize, row: &[i64]) -> Result<(), AllocError>
     requires { start ≤ length cells.old.items }
     ensures ok { OnOk result (cells.new.items ≡ take start cells.old.items ++ (row.now ++ drop start cells.old.items)) }
@@ -285,7 +287,7 @@ fn put_in(cells: &mut Vec<i64>, start: usize, row: &[i64]) -> Result<(), AllocEr
     Ok(())
 }
 
-/// Takes cells out from a place on.
+/// Takes out `width` cells from a place on.
 fn take_out(cells: &mut Vec<i64>, start: usize, width: usize)
     requires { start + width ≤ length cells.old.items }
     ensures { cells.new.items ≡ take start cells.old.items ++ drop (start + width) cells.old.items }

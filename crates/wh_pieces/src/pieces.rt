@@ -1,11 +1,11 @@
-//! A map's pieces, one after another.
+//! A map's pieces, one after another, and the calls of a map on them.
 
 ghost use Rattle.std.specs.Prelude.{◌≡◌, ◌≢◌, ◌<◌, ◌≤◌, ◌+◌, ◌*◌, ◌^◌, ◌↔◌, [], ◌∷◌, ◌++◌, length, take, drop, set, List, ℤ, cond, Option, Some, None, IsSome, IfOk, OnOk, OnErr, IsTrue, suc, false};
 ghost use Rattle.std.specs.List.{insert, remove};
 ghost use Rattle.wh_pieces.specs.Flat.{flat};
 ghost use Rattle.wh_pieces.specs.Row.{is_row};
 ghost use Rattle.wh_pieces.specs.Place.{AreRisingRows, IsAbove};
-ghost use Rattle.wh_pieces.specs.Pieces.{found, with_entry, without_entry, above, from, all_of, AreRevalued, AreWide};
+ghost use Rattle.wh_pieces.specs.Pieces.{found, with_entry, without_entry, remade, above, from, all_of, AreRevalued, AreWide};
 ghost use Rattle.wh_pieces.specs.Inner.Pieces.{AreNotEmpty, ArePieces, AreCounted, IsPieceFor, piece_at, before, after};
 
 use crate::bulk::cut;
@@ -18,7 +18,7 @@ use std::marker::Model;
 
 /// A finite map from rows to values, in rising order of the rows.
 #[derive(Drop)]
-pub struct Pieces<T> {
+pub struct RowMap<T> {
     alloc: Global,
     /// How many rows a piece has at most, where it is made by inserts.
     most: usize,
@@ -26,7 +26,7 @@ pub struct Pieces<T> {
     len: usize,
 }
 
-impl<T> Model for Pieces<T> {
+impl<T> Model for RowMap<T> {
     ghost use Rattle.std.specs.Prelude.{List, ℤ};
     ghost use Rattle.std.specs.Coded.{coded_list, coded×, coded_ℤ};
 
@@ -42,19 +42,20 @@ impl<T> Model for Pieces<T> {
     ghost invariant = { λ r. AreCounted r.pieces.items r.len };
 }
 
-impl<T: Copy + Drop> Pieces<T> {
-    /// No rows.
+impl<T: Copy + Drop> RowMap<T> {
+    /// Makes a map without rows. Takes no memory.
     pub fn new(alloc: Global) -> Self
         ensures { result ≡ [] }
     {
-        Pieces::with_most(alloc, MOST)
+        RowMap::with_most(alloc, MOST)
     }
 
-    /// No rows, in a map whose pieces have about `most` rows at most. The number makes calls faster or slower and changes no answer.
+    /// Makes a map without rows, whose pieces have about `most` rows at most. The number makes calls faster or slower and changes no
+    /// answer. Takes no memory.
     pub fn with_most(alloc: Global, most: usize) -> Self
         ensures { result ≡ [] }
     {
-        Pieces {
+        RowMap {
             alloc,
             most,
             pieces: Vec::new(alloc),
@@ -62,8 +63,8 @@ impl<T: Copy + Drop> Pieces<T> {
         }
     }
 
-    /// The map of these rows of one width, whose cells stand side by side, each with its value. They rise, so pieces are cut from them
-    /// and no row is looked at. Takes O(n w) time for n rows of w cells.
+    /// Makes a map of rows of one width, whose cells stand side by side, each with its value. They have to rise, so pieces are cut from
+    /// them and no row is looked at. Fails for want of memory alone. Takes O(n w) time for n rows of w cells.
     pub fn from_rising(
         alloc: Global,
         width: usize,
@@ -80,7 +81,7 @@ impl<T: Copy + Drop> Pieces<T> {
             return Err(AllocError);
         }
         let pieces = cut(alloc, width, cells, values)?;
-        Ok(Pieces {
+        Ok(RowMap {
             alloc,
             most: MOST,
             pieces,
@@ -88,19 +89,19 @@ impl<T: Copy + Drop> Pieces<T> {
         })
     }
 
-    /// No rows, in a map like this one.
+    /// Makes a map without rows, with the memory and the size of pieces of this one.
     pub(crate) fn none(&self) -> Self
         ensures { result ≡ [] }
     {
-        Pieces::with_most(self.alloc, self.most)
+        RowMap::with_most(self.alloc, self.most)
     }
 
-    /// What gives it memory.
+    /// Returns what the map takes its memory from.
     pub(crate) fn alloc(&self) -> Global {
         self.alloc
     }
 
-    /// How many rows there are.
+    /// Returns the number of rows.
     pub fn len(&self) -> usize
         ensures len { result ≡ length self.now }
         ensures small { result < 2 ^ 63 }
@@ -109,26 +110,26 @@ impl<T: Copy + Drop> Pieces<T> {
         self.len
     }
 
-    /// Whether each row has this many cells. Pieces are asked, and no rows. Takes O(p) time for p pieces.
-    pub fn is_width(&self, width: usize) -> bool
+    /// Returns whether each row has this many cells. Pieces are asked, and no rows. Takes O(p) time for p pieces.
+    pub fn has_width(&self, width: usize) -> bool
         ensures { IsTrue result ↔ AreWide width self.now }
     {
         for place in 0..self.pieces.len() {
-            if !self.pieces[place].is_width(width) {
+            if !self.pieces[place].has_width(width) {
                 return false;
             }
         }
         true
     }
 
-    /// Whether there are no rows.
+    /// Returns whether there are no rows.
     pub fn is_empty(&self) -> bool
         ensures { IsTrue result ↔ (self.now ≡ []) }
     {
         self.len() == 0
     }
 
-    /// The value at a row. Takes O(w log n) time for n rows of w cells.
+    /// Returns the value at a row, or none where the map has no such row. Takes O(w log n) time for n rows of w cells.
     pub fn get(&self, row: &[i64]) -> Option<T>
         ensures { result ≡ found row.now self.now }
     {
@@ -142,7 +143,7 @@ impl<T: Copy + Drop> Pieces<T> {
         }
     }
 
-    /// The entries in rising order.
+    /// Returns the entries in rising order. Takes O(1) time and no memory.
     pub fn entries(&self) -> Entries<'_, T>
         ensures entries { result ≡ self.now }
         ensures few { length result < 2 ^ 63 }
@@ -151,7 +152,8 @@ impl<T: Copy + Drop> Pieces<T> {
         Entries::new(&self.pieces, 0)
     }
 
-    /// The entries above this row, in rising order. Those below it are not walked through. Takes O(w log n) time for n rows of w cells.
+    /// Returns the entries above this row, in rising order. Those below it are not walked through. Takes O(w log n) time for n rows of w
+    /// cells.
     pub fn entries_after(&self, row: &[i64]) -> Entries<'_, T>
         ensures entries { result ≡ above row.now self.now }
         ensures few { length result < 2 ^ 63 }
@@ -167,7 +169,8 @@ impl<T: Copy + Drop> Pieces<T> {
         Entries::new(&self.pieces[nth..], place)
     }
 
-    /// The entries from this row on, in rising order. Those below it are not walked through. Takes O(w log n) time for n rows of w cells.
+    /// Returns the entries from this row on, in rising order. Those below it are not walked through. Takes O(w log n) time for n rows of w
+    /// cells.
     pub fn entries_from(&self, row: &[i64]) -> Entries<'_, T>
         ensures { result ≡ from row.now self.now }
     {
@@ -182,8 +185,9 @@ impl<T: Copy + Drop> Pieces<T> {
         Entries::new(&self.pieces[nth..], place)
     }
 
-    /// Sets the value at a row, and gives the one that stood there. It takes memory only for a row that is new.
-    /// Takes O(w log n) time for n rows of w cells, and moves at most a piece's rows; where a full piece is cut, O(n) more at worst.
+    /// Sets the value at a row, and returns the one that stood there. It takes memory only for a row that is new. An error leaves the map
+    /// as it was. Takes O(w log n) time for n rows of w cells, and moves at most a piece's rows; where a full piece is cut, O(n) more at
+    /// worst.
     pub fn insert(&mut self, row: &[i64], value: T) -> Result<Option<T>, AllocError>
         ensures gives { IfOk result (λ r. r ≡ found row.now self.old) }
         ensures ok { OnOk result (self.new ≡ with_entry self.old row.now value) }
@@ -193,15 +197,17 @@ impl<T: Copy + Drop> Pieces<T> {
         self.insert_or(
             row,
             value,
-            &move |_old: T| -> T
-                ensures { result ≡ value }
-            { value },
+            &move |_old: T| -> Option<T>
+                ensures { result ≡ Some value }
+            { Some(value) },
         )
     }
 
-    /// Puts a value at a row that is new, or makes of the one that stands at the row what `change` does, and gives what
-    /// stood there. It takes memory only for a row that is new.
-    pub fn insert_or<F: Fn(T) -> T>(
+    /// Puts a value at a row that is new, or changes the one that stands there to what `change` makes of it. Returns what stood there.
+    /// Where `change` gives none, the row is removed. It takes memory only for a row that is new. An error leaves the map as it was. Takes
+    /// O(w log n) time for n rows of w cells, and moves at most a piece's rows. Where a full piece is cut or one is emptied, it takes O(n)
+    /// more at worst.
+    pub fn insert_or<F: Fn(T) -> Option<T>>(
         &mut self,
         row: &[i64],
         value: T,
@@ -211,7 +217,8 @@ impl<T: Copy + Drop> Pieces<T> {
         ensures gives { IfOk result (λ r. r ≡ found row.now self.old) }
         ensures new { found row.now self.old ≡ None → OnOk result (self.new ≡ with_entry self.old row.now value) }
         ensures there { (old : T) → found row.now self.old ≡ Some old
-            → (v : T) × (F.post change.now old v) × (self.new ≡ with_entry self.old row.now v) }
+            → (made : Option T) × (F.post change.now old made) × (self.new ≡ remade self.old row.now made)
+            × (found row.now self.new ≡ made) }
         ensures err { OnErr result (self.new ≡ self.old) }
         ensures memory { OnErr result (found row.now self.old ≡ None) }
     {
@@ -222,10 +229,19 @@ impl<T: Copy + Drop> Pieces<T> {
         }
         let nth = find_piece(&self.pieces, row);
         match self.pieces[nth].find(row) {
-            Ok(place) => {
-                let old = self.pieces[nth].get(place).1;
-                self.pieces[nth].set(place, change(old));
-                Ok(Some(old))
+            Ok(here) => {
+                let stood = self.pieces[nth].get(here).1;
+                match change(stood) {
+                    Some(made) => {
+                        self.pieces[nth].set(here, made);
+                        Ok(Some(stood))
+                    }
+                    None => {
+                        take_from(&mut self.pieces, nth, here);
+                        self.len -= 1;
+                        Ok(Some(stood))
+                    }
+                }
             }
             Err(place) => {
                 if self.len >= LARGEST {
@@ -239,8 +255,8 @@ impl<T: Copy + Drop> Pieces<T> {
         }
     }
 
-    /// Whether all rows of another map are above these.
-    pub fn is_below(&self, other: &Pieces<T>) -> bool
+    /// Returns whether all rows of another map are above these. Takes O(w log n) time for n rows of w cells.
+    pub fn is_below(&self, other: &RowMap<T>) -> bool
         ensures { IsTrue result ↔ AreRisingRows (self.now ++ other.now) }
     {
         // Told by the map: its rows rise.
@@ -254,9 +270,9 @@ impl<T: Copy + Drop> Pieces<T> {
         }
     }
 
-    /// Puts another map's rows, which are all above these, behind them. Its pieces are moved, and no row is looked at.
-    /// Takes O(p) time, amortised, for its p pieces.
-    pub fn put_above(&mut self, other: Pieces<T>) -> Result<(), AllocError>
+    /// Puts another map's rows, which are all above these, behind them. Its pieces are moved, and no row is looked at. An error, for want
+    /// of memory, leaves this map as it was. Takes O(p) time, amortised, for its p pieces.
+    pub fn put_above(&mut self, other: RowMap<T>) -> Result<(), AllocError>
         requires { AreRisingRows (self.old ++ other) }
         ensures ok { OnOk result (self.new ≡ self.old ++ other) }
         ensures err { OnErr result (self.new ≡ self.old) }
@@ -275,7 +291,8 @@ impl<T: Copy + Drop> Pieces<T> {
         Ok(())
     }
 
-    /// Adds a row that is above all others. Takes O(w) time, amortised, for a row of w cells.
+    /// Adds a row that is above all others. An error, for want of memory, leaves the map as it was. Takes O(w) time, amortised, for a row
+    /// of w cells.
     pub fn push(&mut self, row: &[i64], value: T) -> Result<(), AllocError>
         requires { IsAbove row.now self.old }
         ensures ok { OnOk result (self.new ≡ self.old ++ (row.now, value) ∷ []) }
@@ -289,8 +306,8 @@ impl<T: Copy + Drop> Pieces<T> {
         Ok(())
     }
 
-    /// Removes a row, and gives its value.
-    /// Takes O(w log n) time for n rows of w cells, and moves at most a piece's rows; where it empties a piece, O(n) more at worst.
+    /// Removes a row, and returns its value; none where the map has no such row. Takes O(w log n) time for n rows of w cells, and moves at
+    /// most a piece's rows; where it empties a piece, O(n) more at worst.
     pub fn remove(&mut self, row: &[i64]) -> Option<T>
         ensures gives { result ≡ found row.now self.old }
         ensures entries { self.new ≡ without_entry self.old row.now }
@@ -311,27 +328,27 @@ impl<T: Copy + Drop> Pieces<T> {
         }
     }
 
-    /// Combines the value at a row that is here with another. Where that gives none, the row is removed.
+    /// Combines the value at a row that is here with another. Where `combine` gives none, the row is removed.
     pub(crate) fn combine_at<F: Fn(T, T) -> Option<T>>(&mut self, row: &[i64], more: T, combine: &F)
         requires callable { F.IsAlwaysCallable combine.now }
         requires there { found row.now self.old ≢ None }
         ensures { (v : T) → found row.now self.old ≡ Some v → (o : Option T) × (F.post combine.now v more o)
             × ((q : List ℤ) → found q self.new ≡ cond (is_row q row.now) o (found q self.old)) }
     {
-        let nth = find_piece(&self.pieces, row);
-        let Ok(here) = self.pieces[nth].find(row) else {
+        let Ok(_) = self.insert_or(
+            row,
+            more,
+            &move |stood: T| -> Option<T>
+                requires { F.IsAlwaysCallable combine.now }
+                ensures { F.post combine.entry.now stood more result }
+            { combine(stood, more) },
+        ) else {
             unreachable!()
         };
-        match combine(self.pieces[nth].get(here).1, more) {
-            Some(sum) => self.pieces[nth].set(here, sum),
-            None => {
-                take_from(&mut self.pieces, nth, here);
-                self.len -= 1;
-            }
-        }
     }
 
-    /// A map with the same entries, made by `alloc`. Takes O(n w) time for n rows of w cells.
+    /// Makes a map with the same entries, whose memory `alloc` gives. Fails for want of memory alone. Takes O(n w) time for n rows of w
+    /// cells.
     pub fn copy(&self, alloc: Global) -> Result<Self, AllocError>
         ensures ok { IfOk result (λ copy. copy ≡ self.now) }
 
@@ -344,7 +361,7 @@ impl<T: Copy + Drop> Pieces<T> {
                 return Err(AllocError);
             };
         }
-        Ok(Pieces {
+        Ok(RowMap {
             alloc,
             most: self.most,
             pieces,
@@ -352,13 +369,13 @@ impl<T: Copy + Drop> Pieces<T> {
         })
     }
 
-    /// The same rows, each with a value that `value_of` makes of the one there. No row is looked at.
-    /// Takes O(n w) time for n rows of w cells.
+    /// Makes a map of these rows, each with a value that `value_of` makes of the one there. No row is looked at. Fails for want of memory
+    /// alone. Takes O(n w) time for n rows of w cells.
     pub fn with_values<U: Copy + Drop, F: Fn(T) -> U>(
         &self,
         alloc: Global,
         value_of: &F,
-    ) -> Result<Pieces<U>, AllocError>
+    ) -> Result<RowMap<U>, AllocError>
         requires { F.IsAlwaysCallable value_of.now }
         ensures ok { IfOk result (AreRevalued (λ old new. F.post value_of.now old new) self.now) }
 
@@ -371,7 +388,7 @@ impl<T: Copy + Drop> Pieces<T> {
                 return Err(AllocError);
             };
         }
-        Ok(Pieces {
+        Ok(RowMap {
             alloc,
             most: self.most,
             pieces,
@@ -383,7 +400,7 @@ impl<T: Copy + Drop> Pieces<T> {
 /// How many rows a piece has at most.
 const MOST: usize = 256;
 
-/// How many rows there can be.
+/// How many rows there can be at most.
 const LARGEST: usize = 9223372036854775807;
 
 /// Takes a row out of a piece, and the piece too if it was its only one.
@@ -400,7 +417,7 @@ fn take_from<T: Copy + Drop>(pieces: &mut Vec<Piece<T>>, nth: usize, place: usiz
     }
 }
 
-/// Whether the row is above all rows, by one look at the last of them.
+/// Returns whether the row is above all rows, by one look at the last of them.
 fn is_above_all<T: Copy + Drop>(pieces: &Vec<Piece<T>>, row: &[i64]) -> bool
     requires pieces { ArePieces pieces.now.items }
     ensures above { IsTrue result → IsAbove row.now (all_of pieces.now.items) }
@@ -417,7 +434,7 @@ fn is_above_all<T: Copy + Drop>(pieces: &Vec<Piece<T>>, row: &[i64]) -> bool
     }
 }
 
-/// About which piece the row stands in.
+/// Returns about which piece the row stands in.
 fn likely_piece<T: Copy + Drop>(pieces: &Vec<Piece<T>>, row: &[i64]) -> usize
     requires some { 0 < length pieces.now.items }
     requires pieces { ArePieces pieces.now.items }
@@ -426,7 +443,7 @@ fn likely_piece<T: Copy + Drop>(pieces: &Vec<Piece<T>>, row: &[i64]) -> usize
     likely_place(row, pieces[0].row(0), pieces[last].row(0), last + 1)
 }
 
-/// The piece in which the row stands or would go.
+/// Returns the piece in which the row stands or would go.
 fn find_piece<T: Copy + Drop>(pieces: &Vec<Piece<T>>, row: &[i64]) -> usize
     requires some { 0 < length pieces.now.items }
     requires pieces { ArePieces pieces.now.items }
@@ -454,7 +471,7 @@ fn find_piece<T: Copy + Drop>(pieces: &Vec<Piece<T>>, row: &[i64]) -> usize
     low
 }
 
-/// Puts a piece of one row before a piece, with room for so many.
+/// Puts a piece of one row before a piece, with room for `room` of them.
 fn put_piece<T: Copy + Drop>(
     alloc: Global,
     pieces: &mut Vec<Piece<T>>,
@@ -628,7 +645,7 @@ fn put_last<T: Copy + Drop>(
     put_piece(alloc, pieces, count, room, row, value)
 }
 
-/// How many rows a piece gets from rows that come in order: some room is left for rows in between.
+/// Returns how many rows a piece gets from rows that come in order. Some room is left for rows in between.
 fn filled(most: usize) -> usize
     ensures { result ≤ most }
 {

@@ -1,6 +1,6 @@
 // Maps whose pieces have two rows at most, against lists that are written out.
 
-use crate::Pieces;
+use crate::RowMap;
 use std::alloc::{AllocError, Global};
 use std::collections::BTreeMap;
 use std::process::Abort;
@@ -13,8 +13,8 @@ fn added(value: i64, more: i64) -> Option<i64> {
 }
 
 /// A map of these entries, put in one after another.
-fn map_of(alloc: Global, entries: &[(&[i64], i64)]) -> Result<Pieces<i64>, AllocError> {
-    let mut map = Pieces::with_most(alloc, 2);
+fn map_of(alloc: Global, entries: &[(&[i64], i64)]) -> Result<RowMap<i64>, AllocError> {
+    let mut map = RowMap::with_most(alloc, 2);
     for (row, value) in entries {
         map.insert(row, *value)?;
     }
@@ -22,7 +22,7 @@ fn map_of(alloc: Global, entries: &[(&[i64], i64)]) -> Result<Pieces<i64>, Alloc
 }
 
 /// Asserts that the map has these entries, in this order.
-fn assert_lists(rt: &impl Abort, map: &Pieces<i64>, wanted: &[(&[i64], i64)]) {
+fn assert_lists(rt: &impl Abort, map: &RowMap<i64>, wanted: &[(&[i64], i64)]) {
     assert_eq!(rt; map.len(), wanted.len());
     let mut entries = map.entries();
     for (row, value) in wanted {
@@ -88,7 +88,7 @@ fn rows_of_other_widths_stand_between(rt: HostRuntime) -> Result<(), Fail> {
 #[test]
 fn a_map_is_made_of_rows_that_rise(rt: HostRuntime) -> Result<(), Fail> {
     let alloc = rt.alloc();
-    let mut map = Pieces::from_rising(alloc, 2, &[1, 5, 1, 6, 2, -3], &[10, 20, 30])?;
+    let mut map = RowMap::from_rising(alloc, 2, &[1, 5, 1, 6, 2, -3], &[10, 20, 30])?;
     assert_lists(&rt, &map, &[(&[1, 5], 10), (&[1, 6], 20), (&[2, -3], 30)]);
     assert!(&rt; map.insert(&[1], 7)?.is_none());
     assert_lists(
@@ -96,27 +96,27 @@ fn a_map_is_made_of_rows_that_rise(rt: HostRuntime) -> Result<(), Fail> {
         &map,
         &[(&[1], 7), (&[1, 5], 10), (&[1, 6], 20), (&[2, -3], 30)],
     );
-    let none = Pieces::<i64>::from_rising(alloc, 2, &[], &[])?;
+    let none = RowMap::<i64>::from_rising(alloc, 2, &[], &[])?;
     assert!(&rt; none.is_empty());
     Ok(())
 }
 
 #[test]
 fn rows_have_one_width_or_not(rt: HostRuntime) -> Result<(), Fail> {
-    let mut map = Pieces::with_most(rt.alloc(), 2);
-    assert!(rt; map.is_width(2));
-    assert!(rt; map.is_width(0));
+    let mut map = RowMap::with_most(rt.alloc(), 2);
+    assert!(rt; map.has_width(2));
+    assert!(rt; map.has_width(0));
     for first in 0..5_i64 {
         map.insert(&[first, 7], first)?;
     }
-    assert!(rt; map.is_width(2));
-    assert!(rt; !map.is_width(1));
-    assert!(rt; !map.is_width(3));
+    assert!(rt; map.has_width(2));
+    assert!(rt; !map.has_width(1));
+    assert!(rt; !map.has_width(3));
     map.insert(&[9], 1)?;
-    assert!(rt; !map.is_width(2));
-    assert!(rt; !map.is_width(1));
+    assert!(rt; !map.has_width(2));
+    assert!(rt; !map.has_width(1));
     let _ = map.remove(&[9]);
-    assert!(rt; map.is_width(2));
+    assert!(rt; map.has_width(2));
     Ok(())
 }
 
@@ -148,7 +148,7 @@ fn rows_leave(rt: HostRuntime) -> Result<(), Fail> {
 
 #[test]
 fn a_row_is_pushed_behind_no_rows(rt: HostRuntime) -> Result<(), Fail> {
-    let mut map = Pieces::new(rt.alloc());
+    let mut map = RowMap::new(rt.alloc());
     map.push(&[7, -7], 70)?;
     assert_lists(&rt, &map, &[(&[7, -7], 70)]);
     Ok(())
@@ -171,7 +171,7 @@ fn entries_begin_after_a_row(rt: HostRuntime) -> Result<(), Fail> {
 /// Asserts that the map's entries that are left after so many come in two parts, so many of them in the first.
 fn assert_parts(
     rt: &impl Abort,
-    map: &Pieces<i64>,
+    map: &RowMap<i64>,
     passed: usize,
     (part, of): (usize, usize),
     first: usize,
@@ -195,7 +195,7 @@ fn assert_parts(
 
 #[test]
 fn entries_come_in_two(rt: HostRuntime) -> Result<(), Fail> {
-    let mut map = Pieces::with_most(rt.alloc(), 2);
+    let mut map = RowMap::with_most(rt.alloc(), 2);
     for number in 0..40 {
         map.insert(&[number], number)?;
     }
@@ -272,7 +272,7 @@ fn next(state: u64) -> u64 {
 
 #[test]
 fn drawn_calls_leave_what_they_leave_in_an_ordered_map(rt: HostRuntime) -> Result<(), Fail> {
-    let mut map = Pieces::with_most(rt.alloc(), 2);
+    let mut map = RowMap::with_most(rt.alloc(), 2);
     let mut plain = BTreeMap::new(rt.alloc());
     let mut state: u64 = 88172645463325252;
     for value in 0..600 {
@@ -316,8 +316,8 @@ const UNEVEN: [i64; 14] = [
 ];
 
 /// A map of such rows, in pieces of about `most`.
-fn uneven(alloc: Global, most: usize) -> Result<Pieces<i64>, AllocError> {
-    let mut map = Pieces::with_most(alloc, most);
+fn uneven(alloc: Global, most: usize) -> Result<RowMap<i64>, AllocError> {
+    let mut map = RowMap::with_most(alloc, most);
     for cell in &UNEVEN {
         map.insert(&[*cell, 1], *cell)?;
     }
@@ -325,7 +325,7 @@ fn uneven(alloc: Global, most: usize) -> Result<Pieces<i64>, AllocError> {
 }
 
 /// Asserts that each of them is found, and none beside it.
-fn assert_uneven(rt: &impl Abort, map: &Pieces<i64>) {
+fn assert_uneven(rt: &impl Abort, map: &RowMap<i64>) {
     for cell in &UNEVEN {
         assert_eq!(rt; map.get(&[*cell, 1]), Some(*cell));
         assert!(rt; map.get(&[*cell, 0]).is_none());
@@ -344,7 +344,7 @@ fn rows_that_lie_unevenly_are_found(rt: HostRuntime) -> Result<(), Fail> {
 
 #[test]
 fn each_second_number_is_found(rt: HostRuntime) -> Result<(), Fail> {
-    let mut map = Pieces::new(rt.alloc());
+    let mut map = RowMap::new(rt.alloc());
     for number in 0..2000 {
         if number % 2 == 0 {
             map.insert(&[number], number)?;

@@ -1,4 +1,4 @@
-//! A tree of decisions on the couples, explored in preorder only where it must be.
+//! Explores a tree of decisions on the couples in preorder, only where it must.
 
 ghost use Rattle.std.specs.Prelude.{◌≡◌, ◌+◌, ◌++◌, ◌∷◌, ◌^◌, ◌≤◌, ℕ, List, [], length, Err, IfOk, IfErr, OnOk, MatchOption};
 ghost use Rattle.std.specs.Option.{option_map_or};
@@ -30,7 +30,7 @@ use wh_strategy::{Costs, Sizes, Strategy};
 pub(crate) struct Search<'a> {
     /// The least work of the one-way strategies that were found.
     pub(crate) best: u128,
-    /// One of this work.
+    /// A strategy of this work.
     pub(crate) list: Strategy,
     /// The nodes that were opened, in preorder.
     pub(crate) nodes: Vec<TreeNode>,
@@ -46,7 +46,7 @@ pub(crate) struct Task<'a> {
     pub(crate) budget: u64,
 }
 
-/// The decisions that install the lower number of each of the shape's couples first.
+/// Returns the decisions that install the lower number of each of the shape's couples first.
 fn lowest(alloc: Global, shape: &Shape, couples: &[Couple]) -> Result<Decided, AllocError>
     requires { couples.now ≡ couples_of shape.now.children }
     ensures all { IfOk result (λ decided. AreLeft shape.now.children decided []) }
@@ -59,7 +59,7 @@ fn lowest(alloc: Global, shape: &Shape, couples: &[Couple]) -> Result<Decided, A
     Ok(decided)
 }
 
-/// The bounds under these decisions and one more on this couple: the lower number first, and the higher number first.
+/// Returns the bounds under these decisions and one more on this couple: the lower number first, and the higher number first.
 fn bounds_below(
     task: &Task<'_>,
     decided: &[(usize, usize)],
@@ -88,7 +88,7 @@ fn bounds_below(
 }
 
 impl<'a> Search<'a> {
-    /// Begins with the strategy in which the lower number of each couple is installed first. No node is open yet.
+    /// Begins a search with the strategy in which the lower number of each couple is installed first. No node is open yet.
     pub(crate) fn begin(
         alloc: Global,
         shape: &'a Shape,
@@ -120,9 +120,9 @@ impl<'a> Search<'a> {
         }
     }
 
-    /// Opens a node. Where its bound is no less than the best work, nothing below it is worth a look. Otherwise its graph, in
-    /// which the couples that it leaves open stand in the desired order, gives a better strategy, or a cycle of decided
-    /// couples, or else the couple to decide next, with a branch for it.
+    /// Opens a node. Where its bound is no less than the best work, nothing below it is worth a look. Otherwise its graph is sorted, in
+    /// which the couples that it leaves open stand in the desired order. That gives a better strategy, or a cycle of decided couples, or
+    /// else the couple to decide next, with a branch for it.
     fn open(
         &mut self,
         alloc: Global,
@@ -146,7 +146,7 @@ impl<'a> Search<'a> {
             self.nodes.push(TreeNode::Bound)?;
             return Ok(None);
         }
-        match self.draft.look(alloc)? {
+        match self.draft.next_branch(alloc)? {
             Found::Sorted(list) => {
                 self.nodes.push(TreeNode::Bound)?;
                 self.best = bound;
@@ -164,8 +164,7 @@ impl<'a> Search<'a> {
         }
     }
 
-    /// Opens the nodes below these decisions, which leave so many couples open. Stops where as many nodes as the budget says
-    /// are open.
+    /// Opens the nodes below these decisions, which leave `left` couples open. Stops where as many nodes as the budget says are open.
     pub(crate) fn explore(
         &mut self,
         alloc: Global,

@@ -1,4 +1,4 @@
-//! Why a search has no plan.
+//! Why a search has no plan, with what it found until then.
 
 ghost use Rattle.std.specs.Prelude.{◌≡◌};
 ghost use Rattle.wh_prune.specs.Fault.{fault_number};
@@ -20,7 +20,7 @@ pub enum PruneFault {
 }
 
 impl PruneFault {
-    /// The refusal's number, from 1.
+    /// Returns the refusal's number, from 1.
     pub fn number(&self) -> u8
         ensures { result ≡ fault_number self.now }
     {

@@ -1,4 +1,4 @@
-//! The plan of a night.
+//! Plans a night for every shape, by MinWork where that has a plan, else by a search.
 
 ghost use Rattle.std.specs.Prelude.{◌≡◌, ◌<◌, ◌≤◌, ◌⊎◌, List, length, IfOk, IfErr, OnErr};
 ghost use Rattle.wh_dag.specs.Kinds.{IsTree, IsUniform};
@@ -19,7 +19,7 @@ use wh_dag::Shape;
 use wh_minwork::{MinFault, min_work};
 use wh_strategy::{Costs, Sizes};
 
-/// The verdict that a certificate of this scope is to have.
+/// Returns the verdict that a certificate of this scope is to have.
 fn accepted_for(scope: Scope) -> Verdict
     ensures { result ≡ accepted_for scope }
 {
@@ -29,7 +29,7 @@ fn accepted_for(scope: Scope) -> Verdict
     }
 }
 
-/// The plan itself, whose certificate is judged once more: what its verdict says is what is known of the plan.
+/// Returns the plan itself, whose certificate is judged once more: what its verdict says is what is known of the plan.
 fn certified(shape: &Shape, sizes: &Sizes, costs: Costs, planned: Planned) -> Planned
     requires same { length sizes.now ≡ length shape.now.children }
     requires shape { planned.correct.children ≡ shape.now.children }
@@ -47,10 +47,12 @@ fn certified(shape: &Shape, sizes: &Sizes, costs: Costs, planned: Planned) -> Pl
     }
 }
 
-/// A plan of least work: among all correct strategies wherever the ordered graph has no cycle, or a one-way strategy
-/// reaches the pair bound all the same; otherwise among those whose Comps are each from one view. Of a tree or a
-/// uniform shape the answer is scope All, or Memory, whatever the budget. Takes O(V² C²) for V views of at most C
-/// children each where the ordered graph has no cycle, and else what `prune` and `certify` take too.
+/// Plans a strategy of least work. It is least among all correct strategies wherever the ordered graph has no cycle, or a one-way strategy
+/// reaches the pair bound all the same. Otherwise it is least among those whose Comps are each from one view.
+///
+/// Fails where a search was needed and its budget was spent, or for want of memory. Of a tree or a uniform shape the answer is scope All,
+/// or Memory, whatever the budget. Takes O(V² C²) for V views of at most C children each where the ordered graph has no cycle, and else
+/// what `prune` and `certify` take too.
 #[tactic(auto, using(crate::proofs::Exploring::all_within))]
 pub fn plan(
     alloc: Global,

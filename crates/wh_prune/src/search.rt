@@ -1,4 +1,4 @@
-//! The search: a least one-way strategy, with the tree that says why it is.
+//! Searches for a least one-way strategy, with the tree that says why it is.
 
 ghost use Rattle.std.specs.Prelude.{◌≡◌, ◌↔◌, ◌+◌, ◌≤◌, ℕ, List, [], length, IfOk, IfErr};
 ghost use Rattle.wh_dag.specs.Shape.{IsShape};
@@ -22,8 +22,8 @@ use wh_dag::Shape;
 use wh_minwork::pair_mins;
 use wh_strategy::{CheckFault, Costs, Sizes, check};
 
-/// Why no strategy costs less than this work: where it is the pair bound, that is reason enough, and it holds for all
-/// strategies; else the tree of these nodes is, for the one-way ones.
+/// Returns why no strategy costs less than this work. Where it is the pair bound, that is reason enough, and it holds for all strategies.
+/// Else the tree of these nodes is, for the one-way ones.
 fn reason(
     alloc: Global,
     shape: &Shape,
@@ -52,8 +52,9 @@ fn reason(
     }
 }
 
-/// A strategy of least work among the one-way ones, by opening at most `budget` nodes of a tree of decisions. Takes
-/// O(V³ C + K N²) for V views of at most C children each, K nodes that are opened and N one-way expressions.
+/// Plans a strategy of least work among the one-way ones, by opening at most `budget` nodes of a tree of decisions. Fails where the budget
+/// was spent, or for want of memory. Takes O(V³ C + K N²) for V views of at most C children each, K nodes that are opened and N one-way
+/// expressions.
 pub fn prune(
     alloc: Global,
     shape: &Shape,

@@ -8,6 +8,7 @@ pub mod OneRow
 pub mod BagLaws
 mod Machine
 mod MapLaws
+mod NarrowLaws
 mod AboveLaws
 mod ShareLaws
 mod PartLaws
@@ -16,6 +17,7 @@ mod RaiseLaws
 mod OrderLaws
 mod FlatLaws
 mod RunningSums
+mod AddedLaws
 pub mod StartLaws
 mod KeptLaws
 pub mod KeyedLaws

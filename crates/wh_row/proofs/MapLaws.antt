@@ -80,7 +80,6 @@ counts-without w (e ∷ es) r h =
 pub seen_count : (es : Counted) (b : Bag) (row : Row) → from_counts es ≡ b → unwrap_or (found row es) (pos 0) ≡ count b row
 seen_count es b row seen = sym (count-from_counts es row) ∙ ap (λ x. count x row) seen
 
--- a number is put in as the machine keeps it
 -- ---- a map in order, written out
 
 put_first : (k : Row) (n : NonZero) (es : List (Row × NonZero)) → T (below_all row_cmp k es) → put row_cmp k n es ≡ (k, n) ∷ es
@@ -181,12 +180,12 @@ on_err (Err x) P Q p f = f p
 abbrev pub AddsUp : (ℤ → ℤ → Option ℤ → Type 0) → Type 0
 AddsUp allowed = (v n : ℤ) (o : Option ℤ) → allowed v n o → FitsSigned w64 (v +ℤ n) → o ≡ unless_zero (v +ℤ n)
 
-or-unless_zero : (n : ℤ) → unwrap_or (unless_zero n) (pos 0) ≡ n
+pub or-unless_zero : (n : ℤ) → unwrap_or (unless_zero n) (pos 0) ≡ n
 or-unless_zero (pos zero) = refl
 or-unless_zero (pos (suc n)) = refl
 or-unless_zero (negsuc n) = refl
 
-some-unless_zero : (n z : ℤ) → unless_zero n ≡ Some z → (n ≡ z) × (z ≢ pos 0)
+pub some-unless_zero : (n z : ℤ) → unless_zero n ≡ Some z → (n ≡ z) × (z ≢ pos 0)
 some-unless_zero (pos zero) z e = absurd (let bad : None ≡ Some z = e in cc)
 some-unless_zero (pos (suc n)) z e = let same : pos (suc n) ≡ z = cc in (same, λ zero. let bad : pos (suc n) ≡ pos 0 = same ∙ zero in cc)
 some-unless_zero (negsuc n) z e = let same : negsuc n ≡ z = cc in (same, λ zero. let bad : negsuc n ≡ pos 0 = same ∙ zero in cc)

@@ -1,5 +1,5 @@
 -- Records in parts.
-use Rattle.std.proofs.Common.{◌≡◌, refl, sym, ap, subst, ◌∙◌, ℕ, suc, ◌+◌, ◌-◌, ◌*◌, ◌≤◌, ◌<◌, ℤ, pos, ◌+ℤ◌, true, false, cond, List, [], ◌∷◌, ◌++◌, map, length, take, get_or, Option, Some, None, IfSome, IsSome, Result, Ok, Err, IfOk, OnOk, All, Bor, slice_get, zero, ◌/◌, add-one, arith, length-append, FitsSigned}
+use Rattle.std.proofs.Common.{◌≡◌, refl, sym, ap, subst, ◌∙◌, ℕ, suc, ◌+◌, ◌-◌, ◌*◌, ◌≤◌, ◌<◌, ℤ, pos, ◌+ℤ◌, true, false, cond, List, [], ◌∷◌, ◌++◌, map, length, take, get_or, Option, Some, None, IfSome, IsSome, Result, Ok, Err, IfOk, OnOk, All, Bor, slice_get, ◌/◌, add-one, arith, length-append, FitsSigned}
 use Rattle.std.specs.List.{AllZip}
 use Rattle.std.specs.Result.{result_ok}
 use Rattle.std.proofs.lemmas.Option.{same_Some}
@@ -88,26 +88,6 @@ pub joined_groups : (groups : List (Bor (List Counted))) → joined (map (λ (gr
 joined_groups [] = refl
 joined_groups (group ∷ groups) =
     ap (λ (es : Counted). joined group.now ++ es) (joined_groups groups) ∙ sym (joined-append group.now (grouped groups))
-
--- one part alone
-pub one_part : (ps : List Counted) (d : Counted) → length ps ≡ 1 → joined ps ≡ get_or ps 0 d
-one_part [] d h = absurd (omega arith)
-one_part (p ∷ []) d h = append-nil p
-one_part (p ∷ q ∷ ps) d h = absurd (omega arith)
-
-first_none : (a b : Counted) → a ++ b ≡ [] → a ≡ []
-first_none [] b h = refl
-first_none (e ∷ a) b h = absurd (let bad : e ∷ (a ++ b) ≡ [] = h in cc)
-
-last_none : (a b : Counted) → a ++ b ≡ [] → b ≡ []
-last_none [] b h = h
-last_none (e ∷ a) b h = absurd (let bad : e ∷ (a ++ b) ≡ [] = h in cc)
-
--- where no part has a record, this one has none
-pub none_joined : (ps : List Counted) (i : ℕ) (d : Counted) → i < length ps → joined ps ≡ [] → get_or ps i d ≡ []
-none_joined [] i d below h = absurd (omega arith)
-none_joined (p ∷ ps) zero d below h = first_none p (joined ps) h
-none_joined (p ∷ ps) (suc i) d below h = none_joined ps i d (omega arith) (last_none p (joined ps) h)
 
 -- ---- small counts
 

@@ -1,86 +1,82 @@
--- More that is added to what a row counts by one search.
-use Rattle.std.proofs.Common.{◌≡◌, ◌≢◌, ◌⊎◌, inl, inr, true, false, refl, sym, ap, subst, ◌∙◌, ℤ, pos, ◌+ℤ◌, Option, Some, None, unwrap_or, FitsSigned, to_z, of_z, to_z-of_z}
+-- More that is added to what a row counts by one search, at either width.
+use Rattle.std.proofs.Common.{◌≡◌, ◌≢◌, refl, sym, ap, subst, ◌∙◌, ℤ, pos, ◌+ℤ◌, Option, Some, None, unwrap_or, FitsSigned, to_z, of_z, to_z-of_z}
 use lib.IntN.{+ℤ_idl}
 use Rattle.std.specs.Int.{Width}
-use Rattle.std.specs.Ordering.{int_eq}
-use Rattle.std.proofs.lemmas.Bool.Decides.{Decides-int_eq, not_from_Decides}
-use Rattle.wh_pieces.specs.Pieces.{found, with_entry}
+use Rattle.wh_pieces.specs.Pieces.{found, with_entry, remade}
 use Rattle.wh_row.specs.Row.{Row}
 use Rattle.wh_row.specs.Weigh.{Counted}
 use Rattle.wh_row.specs.Bag.{Bag, count, set_count, plus}
-use Rattle.wh_row.specs.Inner.Room.{IsRaised}
+use Rattle.wh_row.specs.Inner.Room.{IsRaised, unless_zero}
 use Rattle.wh_row.specs.Stored.{from_counts}
 use Rattle.wh_row.specs.Inner.Stored.{AreCountsIn}
-use Rattle.wh_row.proofs.CountLaws.{set_twice, set_same}
-use Rattle.wh_row.proofs.WrittenLaws.{zero_or_not}
-use Rattle.wh_row.proofs.MapLaws.{from_counts-with, counts-with, found_counts, seen_count}
+use Rattle.wh_row.proofs.CountLaws.{set_same}
+use Rattle.wh_row.proofs.MapLaws.{from_counts-with, from_counts-without, counts-with, counts-without, found_counts, seen_count, or-unless_zero, some-unless_zero}
 
--- a row that counted nothing counts as much
-raised_from_none : (w : Width) (n more : ℤ) → n ≡ pos 0 → (more ≢ pos 0) → FitsSigned w more → IsRaised w n more more
-raised_from_none w n more none some fits =
-    let sum : n +ℤ more ≡ more = ap (λ z. z +ℤ more) none ∙ +ℤ_idl more in
-    record {
-      sum = λ _ _. sym sum;
-      zero = λ e. absurd (some (sym sum ∙ e));
-      large = λ l. absurd (l (subst (FitsSigned w) (sym sum) fits));
-      some = λ _. some;
-      fits = fits;
-    }
+-- ---- a row with what is made of it
 
--- what the row counts then, as the map has it
-abbrev pub IsMade : Width → Counted → Counted → Row → ℤ → ℤ → Type 0
-IsMade w es fs row n v = ((v ≢ pos 0) × FitsSigned w v) × (fs ≡ with_entry es row v)
+from_counts-remade : (es fs : Counted) (r : Row) (o : Option ℤ) → fs ≡ remade es r o → found r fs ≡ o → from_counts fs ≡ set_count (from_counts es) r (unwrap_or o (pos 0))
+from_counts-remade es fs r None is there = from_counts-without es fs r is there
+from_counts-remade es fs r (Some v) is there = ap from_counts is ∙ from_counts-with es r v
 
-module _ (w : Width) (es fs : Counted) (b : Bag) (row : Row) (more : ℤ) (allowed : ℤ → ℤ → Type 0)
-    (tells : (n v : ℤ) → allowed n v → FitsSigned w n → IsRaised w n more v) (seen : from_counts es ≡ b) (counts : AreCountsIn w es) (some : more ≢ pos 0) (fits : FitsSigned w more)
+counts-remade : (w : Width) (es fs : Counted) (r : Row) (o : Option ℤ) → fs ≡ remade es r o → AreCountsIn w es → ((z : ℤ) → o ≡ Some z → (z ≢ pos 0) × FitsSigned w z) → AreCountsIn w fs
+counts-remade w es fs r None is counts each = subst (λ (xs : Counted). AreCountsIn w xs) (sym is) (counts-without w es r counts)
+counts-remade w es fs r (Some v) is counts each = subst (λ (xs : Counted). AreCountsIn w xs) (sym is) (counts-with w es r v counts (each v refl))
+
+-- ---- the entries that the code makes
+
+-- the numbers are counts, and those of this bag
+abbrev pub AreCountsOf : Width → Counted → Bag → Type 0
+AreCountsOf w es b = AreCountsIn w es × (from_counts es ≡ b)
+
+module _ (w : Width) (es fs : Counted) (b : Bag) (row : Row) (more : ℤ) (allowed : ℤ → Option ℤ → Type 0)
+    (tells : (n : ℤ) (o : Option ℤ) → allowed n o → FitsSigned w n → IsRaised w n more o) (seen : from_counts es ≡ b) (counts : AreCountsIn w es) (some : more ≢ pos 0) (fits : FitsSigned w more)
     (new : found row es ≡ None → fs ≡ with_entry es row (to_z w (of_z w more)))
-    (there : (n : ℤ) → found row es ≡ Some n → (v : ℤ) × allowed n v × (fs ≡ with_entry es row v)) where
-  made : (o : Option ℤ) → found row es ≡ o → (v : ℤ) × IsRaised w (count b row) more v × IsMade w es fs row (count b row) v
-  made None is = (
-    more,
-    raised_from_none w (count b row) more (sym (seen_count es b row seen) ∙ ap (λ o. unwrap_or o (pos 0)) is) some fits,
-    ((some, fits), new is ∙ ap (with_entry es row) (to_z-of_z fits)),
-  )
-  made (Some n) is =
-      let stood = found_counts w es counts row n is in
+    (there : (n : ℤ) → found row es ≡ Some n → (o : Option ℤ) × allowed n o × (fs ≡ remade es row o) × (found row fs ≡ o)) where
+  before : (o : Option ℤ) → found row es ≡ o → unwrap_or o (pos 0) ≡ count b row
+  before o is = sym (ap (λ x. unwrap_or x (pos 0)) is) ∙ seen_count es b row seen
+
+  -- a row that is new counts as much
+  sum_of_none : found row es ≡ None → more ≡ count b row +ℤ more
+  sum_of_none is = sym (+ℤ_idl more) ∙ ap (λ z. z +ℤ more) (before None is)
+
+  summed : (o : Option ℤ) → found row es ≡ o → FitsSigned w (count b row +ℤ more) → AreCountsOf w fs (plus b row more)
+  summed None is sum_fits =
+      let entry : fs ≡ with_entry es row more = new is ∙ ap (with_entry es row) (to_z-of_z fits) in (
+        subst (λ (xs : Counted). AreCountsIn w xs) (sym entry) (counts-with w es row more counts (some, fits)),
+        ap from_counts entry ∙ from_counts-with es row more ∙ (λ i. set_count (seen i) row (sum_of_none is i)),
+      )
+  summed (Some n) is sum_fits =
       let told = there n is in
-      let counted : n ≡ count b row = sym (ap (λ o. unwrap_or o (pos 0)) is) ∙ seen_count es b row seen in
-      let raised = tells n told.0 told.1 stood.1 in
-      (told.0, subst (λ z. IsRaised w z more told.0) counted raised, ((raised.some stood.0, raised.fits), told.2))
+      let here : FitsSigned w (n +ℤ more) = subst (λ z. FitsSigned w (z +ℤ more)) (sym (before (Some n) is)) sum_fits in
+      let made : told.0 ≡ unless_zero (n +ℤ more) = (tells n told.0 told.1 (found_counts w es counts row n is).1).sum here in
+      let value : unwrap_or told.0 (pos 0) ≡ count b row +ℤ more = ap (λ o. unwrap_or o (pos 0)) made ∙ or-unless_zero (n +ℤ more) ∙ ap (λ z. z +ℤ more) (before (Some n) is) in (
+        counts-remade w es fs row told.0 told.2 counts (λ z e. let x = some-unless_zero (n +ℤ more) z (sym made ∙ e) in (x.1, subst (FitsSigned w) x.0 here)),
+        from_counts-remade es fs row told.0 told.2 told.3 ∙ (λ i. set_count (seen i) row (value i)),
+      )
 
-  pub raised_counts : AreCountsIn w fs
-  raised_counts =
-      let m = made (found row es) refl in
-      subst (λ (x : Counted). AreCountsIn w x) (sym m.2.1) (counts-with w es row m.0 counts m.2.0)
+  kept : (o : Option ℤ) → found row es ≡ o → ¬ (FitsSigned w (count b row +ℤ more)) → AreCountsOf w fs b
+  kept None is large = absurd (large (subst (FitsSigned w) (sum_of_none is) fits))
+  kept (Some n) is large =
+      let told = there n is in
+      let stood = found_counts w es counts row n is in
+      let made : told.0 ≡ Some n = (tells n told.0 told.1 stood.1).large (λ here. large (subst (λ z. FitsSigned w (z +ℤ more)) (before (Some n) is) here)) in
+      let value : unwrap_or told.0 (pos 0) ≡ count b row = ap (λ o. unwrap_or o (pos 0)) made ∙ before (Some n) is in (
+        counts-remade w es fs row told.0 told.2 counts (λ z e. let both : Some n ≡ Some z = sym made ∙ e in let same : n ≡ z = cc in subst (λ (x : ℤ). (x ≢ pos 0) × FitsSigned w x) same stood),
+        from_counts-remade es fs row told.0 told.2 told.3 ∙ (λ i. set_count (seen i) row (value i)) ∙ set_same b row,
+      )
 
-  pub raised_bag : (v : ℤ) × IsRaised w (count b row) more v × (from_counts fs ≡ set_count b row v)
-  raised_bag =
-      let m = made (found row es) refl in
-      (m.0, m.1, ap from_counts m.2.1 ∙ from_counts-with es row m.0 ∙ (λ i. set_count (seen i) row m.0))
+  pub raised_sum : FitsSigned w (count b row +ℤ more) → AreCountsOf w fs (plus b row more)
+  raised_sum = summed (found row es) refl
 
--- ---- where the sum is 0, leaves the width, or is neither
+  pub raised_large : ¬ (FitsSigned w (count b row +ℤ more)) → AreCountsOf w fs b
+  raised_large = kept (found row es) refl
 
-module _ (w : Width) (b s : Bag) (row : Row) (more n : ℤ) (raised : IsRaised w (count b row) more n) (is : s ≡ set_count b row n) where
-  pub gone : (t : Bag) → count b row +ℤ more ≡ pos 0 → t ≡ set_count s row (pos 0) → t ≡ plus b row more
-  gone t zero again = again ∙ (λ i. set_count (is i) row (pos 0)) ∙ set_twice b row n (pos 0) ∙ ap (set_count b row) (sym zero)
+-- ---- the sum that the code looks at
 
-  pub summed : FitsSigned w (count b row +ℤ more) → (count b row +ℤ more ≢ pos 0) → s ≡ plus b row more
-  summed fits some = is ∙ ap (set_count b row) (raised.sum fits some)
+module _ (w : Width) (es : Counted) (b : Bag) (row : Row) (stood : Option ℤ) (before more : ℤ) (is : before ≡ unwrap_or stood (pos 0)) (gives : stood ≡ found row es) (seen : from_counts es ≡ b)
+    (g : FitsSigned w before) (f : FitsSigned w more) where
+  pub counted_before : to_z w (of_z w before) ≡ count b row
+  counted_before = to_z-of_z g ∙ is ∙ ap (λ o. unwrap_or o (pos 0)) gives ∙ seen_count es b row seen
 
-  pub unchanged : ¬ (FitsSigned w (count b row +ℤ more)) → s ≡ b
-  unchanged large = is ∙ ap (set_count b row) (raised.large large) ∙ set_same b row
-
--- ---- there is one such number
-
-pub raised_one : (w : Width) (n more a b : ℤ) → IsRaised w n more a → IsRaised w n more b → a ≡ b
-raised_one w n more a b p q = by (zero_or_not (n +ℤ more))
-  where
-    by : (n +ℤ more ≡ pos 0) ⊎ (n +ℤ more ≢ pos 0) → a ≡ b
-    by (inl z) = p.zero z ∙ sym (q.zero z)
-    by (inr some) = elim (int_eq a b) as (λ t. int_eq a b ≡ t → a ≡ b) [
-      | true ↦ λ t. (Decides-int_eq a b).0 t
-      | false ↦ λ t.
-          let apart = not_from_Decides (int_eq a b) (Decides-int_eq a b) t in
-          let large : ¬ (FitsSigned w (n +ℤ more)) = λ fits. apart (p.sum fits some ∙ sym (q.sum fits some)) in
-          p.large large ∙ sym (q.large large)
-    ] refl
+  pub summed_there : to_z w (of_z w before) +ℤ to_z w (of_z w more) ≡ count b row +ℤ more
+  summed_there i = counted_before i +ℤ to_z-of_z f i

@@ -1,8 +1,10 @@
+pub mod Added
 pub mod Bag
 pub mod Flat
 pub mod Kept
 pub mod Keyed
 pub mod Laid
+pub mod Narrow
 pub mod Parts
 pub mod Room
 pub mod Shares

@@ -1,4 +1,4 @@
-//! What a bag keeps that is made at once, of rising records or of two bags.
+//! Reckons what a bag keeps of its counts where it is made at once, of rising records or of two bags.
 
 ghost use Rattle.std.specs.Prelude.{◌≡◌, IfSome, unsigned_abs};
 ghost use Rattle.std.specs.List.{sum_by};
@@ -7,9 +7,9 @@ ghost use Rattle.wh_row.specs.Inner.Stored.{AreCounts};
 
 use crate::kept::{Kept, one_if_below};
 use crate::records::Records;
-use wh_pieces::Pieces;
+use wh_pieces::RowMap;
 
-/// What is kept of a bag of these records where each stands alone with its row; none where a count is 0 or all together leave u64.
+/// Returns what is kept of a bag of these records where each stands alone with its row; none where a count is 0 or all together leave u64.
 pub(crate) fn kept_of(records: &Records) -> Option<Kept>
     ensures counts { IfSome result (λ kept. AreCounts records.now) }
     ensures total { IfSome result (λ kept. kept.total ≡ sum_by (λ e. unsigned_abs e.1) records.now) }
@@ -31,8 +31,8 @@ pub(crate) fn kept_of(records: &Records) -> Option<Kept>
     })
 }
 
-/// What is kept of a bag with these counts.
-pub(crate) fn kept_of_counts(counts: &Pieces<i64>) -> Kept
+/// Returns what is kept of a bag with these counts.
+pub(crate) fn kept_of_counts(counts: &RowMap<i64>) -> Kept
     ensures total { result.total ≡ sum_by (λ e. unsigned_abs e.1) counts.now }
     ensures below { result.below ≡ sum_by (λ e. one_below e.1) counts.now }
 {

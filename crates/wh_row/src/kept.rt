@@ -1,4 +1,4 @@
-//! What a bag keeps of its counts.
+//! What a bag keeps of its counts, so that its size and whether it is a table are known at once.
 
 ghost use Rattle.std.specs.Prelude.{◌≡◌, ◌<◌, ◌≤◌, ◌+◌, ◌^◌, unsigned_abs};
 ghost use Rattle.wh_row.specs.Inner.Kept.{one_below};
@@ -13,7 +13,7 @@ pub(crate) struct Kept {
 }
 
 impl Kept {
-    /// What is kept of two bags together that have no row in common.
+    /// Returns what is kept of two bags together that have no row in common.
     pub(crate) fn and(self, other: Kept) -> Kept
         requires small { self.total + other.total < 2 ^ 128 }
         requires few { self.below + other.below < 2 ^ 64 }
@@ -26,7 +26,7 @@ impl Kept {
         }
     }
 
-    /// What is kept once a row that counted `before` counts `after`.
+    /// Returns what is kept once a row that counted `before` counts `after`.
     pub(crate) fn changed(self, before: i64, after: i64) -> Kept
         requires total { unsigned_abs before ≤ self.total }
         requires below { one_below before ≤ self.below }
@@ -44,7 +44,7 @@ impl Kept {
     }
 }
 
-/// 1 for a number below zero, else 0.
+/// Returns 1 for a number below zero, else 0.
 pub(crate) fn one_if_below(number: i64) -> usize
     ensures { result ≡ one_below number }
 {

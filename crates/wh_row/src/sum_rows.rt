@@ -1,4 +1,4 @@
-//! The rows of sums, lent one after another.
+//! Lends the rows of sums one after another, so that they are walked through without a copy.
 
 ghost use Rattle.std.specs.Prelude.{◌≡◌};
 ghost use Rattle.std.specs.Iterator.{YieldsFirstBy, item_count};
@@ -22,7 +22,7 @@ impl<'a> Model for SumRows<'a> {
 }
 
 impl<'a> SumRows<'a> {
-    /// The rows of these entries.
+    /// Makes a walk over the rows of these entries.
     pub(crate) fn new(entries: Entries<'a, i128>) -> Self
         ensures { result ≡ entries.entry }
     {

@@ -5,6 +5,7 @@ mod RowLaws
 mod SlotLaws
 mod KeptLaws
 mod ReadLaws
+pub mod Answers
 mod Pages
 mod PageLaws
 mod VersionLaws

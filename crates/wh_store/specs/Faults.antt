@@ -1,5 +1,5 @@
 -- Why an operation is not published, what a refusal leaves, and how a night ends.
-use Rattle.std.specs.Prelude.{◌≡◌, ◌⊎◌, ℕ, Bool, true, false, IsTrue, Option, Some, None, option_map, is_some, if◌then◌else◌, Result, Ok, Err}
+use Rattle.std.specs.Prelude.{◌≡◌, ◌⊎◌, ℕ, ◌+◌, Bool, true, false, IsTrue, Option, Some, None, option_map, is_some, if◌then◌else◌, Result, Ok, Err, MatchResult}
 use Rattle.wh_store.specs.Operations.{Operation, Opens, Writes, Commits, Gives_up}
 use Rattle.wh_store.specs.Refusals.{refusal}
 use Rattle.wh_store.specs.declared.fault.StoreFault.{StoreFault}
@@ -67,3 +67,7 @@ Ends l m answer = (m ≡ ledger l.of (closed (stays_open l) (gone_out l)) None) 
 abbrev pub EndsLater : Ledger → Ledger → Type 0
 EndsLater l m =
     IsTrue (is_busy l) × ((m ≡ l) ⊎ (IsTrue (stays_open l) × ((m ≡ ledger l.of (gone_out l) None) ⊎ (m ≡ ledger l.of (gone_out l) (Some Gives_up)))))
+
+-- the count of refused give-ups is one higher after a give-up that was refused, and the same after any other
+abbrev pub CountsRefusal : {T E : Type 0} → Result T E → ℕ → ℕ → Type 0
+CountsRefusal result before after = MatchResult result (λ _. after ≡ before) (λ _. after ≡ before + 1)

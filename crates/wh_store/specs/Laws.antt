@@ -8,7 +8,7 @@ use Rattle.wh_store.specs.Kept.{AreTables}
 use Rattle.wh_store.specs.Operations.{Operation}
 use Rattle.wh_store.specs.Pages.{Contents, Shown, page_of, rises_after, with_counts}
 use Rattle.wh_store.specs.Refusals.{refusal}
-use Rattle.wh_store.specs.Versions.{Versions, number, version, versions_of, is_unexpired, is_well_formed}
+use Rattle.wh_store.specs.Versions.{Versions, is_active, is_unexpired, is_well_formed, number, version, versions_of}
 use Rattle.wh_store.specs.Windows.{Window, Shows, applied, current, kept_version, unexpired}
 use Rattle.wh_store.specs.declared.fault.StoreFault.TheVariants.{LastVersion}
 
@@ -21,7 +21,7 @@ WindowsFollow =
 pub record Tells (w : Window) (v : Versions) : Type 0 where
   pub numbered : w.number ≡ number v
   pub written : w.draft ≡ v.draft
-  pub readable : (s : ℕ) → unexpired w s ≡ is_unexpired w.limit v s
+  pub readable : (s : ℕ) → unexpired w s ≡ is_unexpired w.limit (number v) (is_active v) s
   pub contents : (s : ℕ) → IsTrue (unexpired w s) → kept_version w s ≡ version v s
   pub newest : 2 ≤ w.limit → current w ≡ v.newest
 

@@ -3,6 +3,7 @@ pub mod Operations
 pub mod Versions
 pub mod Slots
 pub mod Windows
+pub mod Readers
 pub mod Refusals
 pub mod Kept
 pub mod Laws

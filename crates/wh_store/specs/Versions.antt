@@ -58,9 +58,9 @@ table_of v s view = table_in (version v s) view
 abbrev pub kept_count : ℕ → Bool → ℕ
 kept_count n active = if active then n - 1 else n
 
--- a session of version s can be read, where n versions are kept: s is the current version or one of the kept ones before it
-abbrev pub is_unexpired : ℕ → Versions → ℕ → Bool
-is_unexpired n v s = nat_le s (number v) && nat_lt (number v) (s + kept_count n (is_active v))
+-- a session of version s can be read, where n versions are kept, and this one is current: s is the current version or one of the kept ones before it
+abbrev pub is_unexpired : ℕ → ℕ → Bool → ℕ → Bool
+is_unexpired n current active s = nat_le s current && nat_lt current (s + kept_count n active)
 
 -- the operation may come where a night is open, or where none is
 abbrev pub may_come : ℕ → Bool → Operation → Bool

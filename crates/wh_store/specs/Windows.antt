@@ -1,5 +1,5 @@
 -- What a store shows of the versions: those whose sessions can still be read, and what is being written.
-use Rattle.std.specs.Prelude.{◌≡◌, ℕ, ◌+◌, ◌-◌, List, ◌∷◌, take, map, slice_index_or, slice_set, [], Option, Some, None, is_some, unwrap_or, option_map, Bool, nat_le, nat_lt, ◌&&◌}
+use Rattle.std.specs.Prelude.{◌≡◌, ℕ, ◌+◌, ◌-◌, List, ◌∷◌, take, map, slice_index_or, slice_set, [], Option, Some, None, is_some, unwrap_or, option_map, Bool}
 use Rattle.wh_row.specs.Bag.{count}
 use Rattle.wh_row.specs.Row.{Row}
 use Rattle.wh_versions.specs.Rows.{read}
@@ -7,7 +7,7 @@ use Rattle.wh_versions.specs.Tables.{IsNewToNight}
 use Rattle.wh_store.specs.Operations.{Operation, Opens, Writes, Commits, Gives_up}
 use Rattle.wh_store.specs.Pages.{Contents}
 use Rattle.wh_store.specs.Slots.{Paired, pairs_at, put_in, rows_in, still_read, taken_back}
-use Rattle.wh_store.specs.Versions.{Versions, number, is_active, kept_count, table_in, versions_of, written_over}
+use Rattle.wh_store.specs.Versions.{Versions, number, is_active, is_unexpired, kept_count, table_in, versions_of, written_over}
 
 -- of how many versions it keeps the contents, the current number, the contents of the versions that a session can be read of, the newest first, what is being written, and of each view the rows that have pairs
 pub record Window : Type 0 where
@@ -35,7 +35,7 @@ kept_version w s = slice_index_or w.kept (w.number - s) []
 
 -- a session of this version can be read
 abbrev pub unexpired : Window → ℕ → Bool
-unexpired w s = nat_le s w.number && nat_lt w.number (s + kept_count w.limit (is_some w.draft))
+unexpired w s = is_unexpired w.limit w.number (is_some w.draft) s
 
 -- in these contents each row of the view counts what a session of version s reads of its pairs
 abbrev pub CountsAreRead : Window → ℕ → ℕ → Contents → Type 0

@@ -1,11 +1,11 @@
-//! How a night ended that was to be given up.
+//! Tells how a night ended that was to be given up.
 
-/// How the night ended.
+/// The ways in which a night ends that was to be given up.
 #[derive(Clone, Copy, Debug, PartialEq, Eq)]
 pub enum Ended {
-    /// Its commit was held, and went out.
+    /// The night's commit was held, and went out.
     Committed,
-    /// It was given up.
+    /// The night was given up.
     GivenUp,
     /// No night was open.
     NoneOpen,

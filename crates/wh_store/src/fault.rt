@@ -1,21 +1,21 @@
-//! Why a store refuses an operation.
+//! Names why a store refuses an operation.
 
 ghost use Rattle.std.specs.Prelude.{◌≡◌};
 ghost use Rattle.wh_store.specs.Refusals.{fault_number};
 
 use std::alloc::{AllocError, AllocFailed};
 
-/// Why an operation was refused: the first reason that holds, in this order, but for memory, which may come at any point
-/// at which it is taken. The store is as it was.
+/// The reasons for which an operation is refused: it is the first that holds, in this order. Memory may come at any point at which it is
+/// taken. The store is as it was.
 #[derive(Clone, Copy, Debug, PartialEq, Eq)]
 pub enum StoreFault {
     /// A night begins where one is open.
     NightOpen,
     /// No night is open.
     NoNight,
-    /// There is no such view.
+    /// There is no view of this number.
     NoView,
-    /// What is to be written is not 1 to 256 rows, rising, with counts of 0 and above.
+    /// The rows to be written are not 1 to 256, rising, with counts of 0 and above.
     BadPage,
     /// The current version has the last number, 2^64 - 1.
     LastVersion,
@@ -24,7 +24,7 @@ pub enum StoreFault {
 }
 
 impl StoreFault {
-    /// The refusal's number, from 1.
+    /// Returns the refusal's number, from 1, in the order of the variants.
     pub fn number(self) -> u8
         ensures { result ≡ fault_number self }
     {

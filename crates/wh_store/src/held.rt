@@ -1,4 +1,4 @@
-//! The rows of all views with the last N versions, and what is done to them.
+//! Keeps the rows of all views with the last N versions, and does operations on them.
 
 ghost use Rattle.std.specs.Prelude.{◌≡◌, ◌≢◌, ◌≤◌, ◌<◌, ◌++◌, [], ◌∷◌, ◌+◌, ℕ, List, Some, Err, IfOk, OnOk, OnErr, IsOk, IsOkUnless, IsTrue, MatchOption, is_some, length, option_map};
 ghost use Rattle.wh_row.specs.Bag.{empty};
@@ -45,7 +45,7 @@ impl<const N: usize> Model for Held<N> {
 }
 
 impl<const N: usize> Held<N> {
-    /// Version 0, of these tables, in no night.
+    /// Makes version 0, of these tables, in no night.
     pub(crate) fn new(alloc: Global, tables: &[Bag]) -> Result<Self, AllocError>
         requires versions { 2 ≤ N }
         requires few { N ≤ 4 }
@@ -141,7 +141,7 @@ impl<const N: usize> Held<N> {
         }
     }
 
-    /// At least two versions are kept. For proofs: it does nothing.
+    /// States that at least two versions are kept. It does nothing, and is there for proofs.
     pub(crate) fn is_enough(&self)
         ensures { 2 ≤ self.now.limit }
     {
@@ -149,7 +149,7 @@ impl<const N: usize> Held<N> {
         let _ = &self.number;
     }
 
-    /// Why this operation would be refused, if it would, want of memory aside.
+    /// Tells why this operation would be refused, if it would, want of memory aside.
     pub(crate) fn refuses(&self, op: &Op) -> Option<StoreFault>
         ensures { result ≡ refusal self.now (operation op.now) }
     {
@@ -198,21 +198,21 @@ impl<const N: usize> Held<N> {
         }
     }
 
-    /// The number of the current version, from 0.
+    /// Returns the number of the current version, from 0.
     pub(crate) fn number(&self) -> u64
         ensures { result ≡ self.now.number }
     {
         self.number
     }
 
-    /// Whether a night is open.
+    /// Tells whether a night is open.
     pub(crate) fn is_active(&self) -> bool
         ensures { result ≡ is_some self.now.draft }
     {
         self.active
     }
 
-    /// Whether sessions of this version can be read.
+    /// Tells whether sessions of this version can be read.
     pub(crate) fn unexpired(&self, version: u64) -> bool
         ensures { result ≡ unexpired self.now version }
     {
@@ -220,7 +220,7 @@ impl<const N: usize> Held<N> {
         version <= self.number && self.number - version < kept as u64
     }
 
-    /// How many views there are.
+    /// Returns how many views there are.
     pub(crate) fn views(&self) -> usize
         ensures current { result ≡ length (current self.now) }
         ensures kept { (version : ℕ) → IsTrue (unexpired self.now version) → result ≡ length (kept_version self.now version) }
@@ -228,7 +228,7 @@ impl<const N: usize> Held<N> {
         self.tables.len()
     }
 
-    /// A page of a view in a version that sessions can be read of.
+    /// Returns a page of a view in a version that sessions can be read of.
     pub(crate) fn visible(
         &self,
         version: u64,
@@ -238,6 +238,7 @@ impl<const N: usize> Held<N> {
     ) -> Result<Page, AllocError>
         requires unexpired { IsTrue (unexpired self.now version) }
         requires view { view < length (kept_version self.now version) }
+        requires most { limit ≤ 256 }
         ensures page { IfOk result (λ page. page ≡ page_of (table_in (kept_version self.now version) view) (option_map (λ row. row.now) after.entry) limit) }
         ensures memory { OnErr result ((page_of (table_in (kept_version self.now version) view) (option_map (λ row. row.now) after.entry) limit).rows ≢ []) }
     {
@@ -247,7 +248,7 @@ impl<const N: usize> Held<N> {
         Ok(Page { rows, last })
     }
 
-    /// The table of a view in the current version.
+    /// Returns the table of a view in the current version.
     pub(crate) fn table(&self, view: usize) -> Result<Bag, AllocError>
         requires { view < length (current self.now) }
         ensures table { IfOk result (λ table. table ≡ table_in (current self.now) view) }
@@ -256,7 +257,7 @@ impl<const N: usize> Held<N> {
         self.tables[view].table(self.alloc, self.number)
     }
 
-    /// The pairs of a row of a view, where it is there.
+    /// Returns the pairs of a row of a view; `None` where the row is not there.
     pub(crate) fn slots(&self, view: usize, row: &[i64]) -> Option<VersionRow<N>>
         ensures { pairs_in result ≡ pairs_at self.now.rows view row.now }
     {
@@ -279,7 +280,7 @@ impl<const N: usize> Held<N> {
         table.are_in_form();
     }
 
-    /// What shows the same.
+    /// Makes a copy, which shows what this shows.
     pub(crate) fn copy(&self, alloc: Global) -> Result<Self, AllocError>
         ensures { IfOk result (λ copy. copy ≡ self.now) }
     {

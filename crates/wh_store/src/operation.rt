@@ -1,4 +1,4 @@
-//! What a writer does to a store.
+//! Names what a writer does to a store.
 
 ghost use Rattle.std.specs.Prelude.{◌≡◌, Option, None, option_map};
 ghost use Rattle.wh_row.specs.Row.{Row as Cells};
@@ -15,8 +15,8 @@ pub const MAX_KEYS: usize = 256;
 pub enum Op {
     /// A night begins: from here on the tables of the next version are written, beginning with those of the current one.
     Begin,
-    /// These rows of this view get these counts in the next version: 1 to [`MAX_KEYS`] rows, rising, with counts of 0 and
-    /// above; 0 for a row that leaves.
+    /// Rows of this view get these counts in the next version: 1 to [`MAX_KEYS`] rows, rising, with counts of 0 and above; 0 for a row that
+    /// leaves.
     Put(usize, Vec<(Row, i64)>),
     /// The night ends: what it wrote is the current version.
     Commit,
@@ -24,7 +24,7 @@ pub enum Op {
     GiveUp,
 }
 
-/// Whether the row stands after this one, which every row does where there is none.
+/// Tells whether the row stands after this one, which every row does where there is none.
 pub(crate) fn is_row_after(after: Option<&[i64]>, row: &[i64]) -> bool
     ensures { result ≡ is_row_after (option_map (λ before. before.now) after.entry) row.now }
 {
@@ -60,7 +60,7 @@ fn count_no_less(rows: &[(Row, i64)]) -> bool
     true
 }
 
-/// Whether these are new counts that one operation may write.
+/// Tells whether these are new counts that one operation may write.
 pub(crate) fn is_page(rows: &[(Row, i64)]) -> bool
     ensures { result ≡ is_page (plain rows.now) }
 {

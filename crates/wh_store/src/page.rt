@@ -1,4 +1,4 @@
-//! Pages of a table.
+//! Gives pages of a table.
 
 use std::marker::Model;
 use wh_row::Records;
@@ -6,7 +6,7 @@ use wh_row::Records;
 /// Some rows of a table in rising order, each with its count, and whether none follows.
 #[derive(Drop)]
 pub struct Page {
-    /// The rows.
+    /// The rows, rising, each with its count.
     pub rows: Records,
     /// Whether the table has no row after these.
     pub last: bool,

@@ -1,21 +1,21 @@
-//! Why an operation is not published.
+//! Names why an operation is not published.
 
 ghost use Rattle.std.specs.Prelude.{◌≡◌};
 ghost use Rattle.wh_store.specs.Faults.{fault_number, fault_of};
 
 use crate::fault::StoreFault;
 
-/// Why an operation was not published: [`PublishFault::Held`] first, then the first of a store's reasons, but for memory, which may come at
-/// any point at which it is taken. Nothing is published.
+/// The reasons for which an operation is not published: [`PublishFault::Held`] first, then the first of a store's reasons. Memory may come
+/// at any point at which it is taken. Nothing is published.
 #[derive(Clone, Copy, Debug, PartialEq, Eq)]
 pub enum PublishFault {
     /// A night begins where one is open.
     NightOpen,
     /// No night is open.
     NoNight,
-    /// There is no such view.
+    /// There is no view of this number.
     NoView,
-    /// What is to be written is not 1 to 256 rows, rising, with counts of 0 and above.
+    /// The rows to be written are not 1 to 256, rising, with counts of 0 and above.
     BadPage,
     /// The current version has the last number, 2^64 - 1.
     LastVersion,
@@ -26,7 +26,7 @@ pub enum PublishFault {
 }
 
 impl PublishFault {
-    /// The refusal's number, from 1.
+    /// Returns the refusal's number, from 1.
     pub fn number(self) -> u8
         ensures { result ≡ fault_number self }
     {
@@ -41,7 +41,7 @@ impl PublishFault {
         }
     }
 
-    /// A store's refusal as a writer answers it.
+    /// Makes a store's refusal the one that a writer answers.
     pub fn of_store(fault: StoreFault) -> PublishFault
         ensures { result ≡ fault_of fault }
     {

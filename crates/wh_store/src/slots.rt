@@ -1,4 +1,4 @@
-//! What a row counts in the last versions.
+//! Shows what a row counts in the last versions.
 
 ghost use Rattle.std.specs.Prelude.{◌≡◌, slice_get};
 
@@ -13,7 +13,7 @@ pub(crate) enum Places {
     Four(VersionRow<4>),
 }
 
-/// What a row counts in the last versions: pairs of a version's number and of what the row counts from that version on, the newest first.
+/// The counts of a row in the last versions: pairs of a version's number and of what the row counts from that version on, the newest first.
 #[derive(Drop)]
 pub struct Slots {
     pub(crate) places: Places,
@@ -33,7 +33,7 @@ impl Model for Slots {
 }
 
 impl Slots {
-    /// The pair at a place, the newest first.
+    /// Returns the pair at a place, the newest first; `None` where there are fewer.
     pub fn pair(&self, place: usize) -> Option<(u64, i64)>
         ensures { result ≡ slice_get self.now place }
     {

@@ -1,4 +1,4 @@
-//! The store.
+//! Keeps the versions of a warehouse that sessions can still read.
 
 ghost use Rattle.std.specs.Prelude.{◌≡◌, ◌≢◌, ◌≤◌, ◌<◌, ◌++◌, [], ◌∷◌, ◌+◌, ℕ, List, Some, Err, IfOk, OnOk, OnErr, IsOkUnless, IsTrue, MatchOption, is_some, length, option_map};
 ghost use Rattle.wh_row.specs.Bag.{empty};
@@ -34,9 +34,10 @@ enum Depth {
     Four(Held<4>),
 }
 
-/// The versions of a warehouse that sessions can still read, and in a night the one that is being written: the rows of each view, each row
-/// with its counts in the last versions. Seen as what it shows: the number of the current version, the contents of each version that is
-/// kept, the newest first, those that are being written, and the rows that have pairs.
+/// The versions of a warehouse that sessions can still read, and in a night the one that is being written. It holds the rows of each view,
+/// each with its counts in the last versions.
+/// It is seen as what it shows: the current version's number, the contents of each kept version, the newest first, those being written, and
+/// the rows that have pairs.
 #[derive(Drop)]
 pub struct Store {
     held: Depth,
@@ -56,8 +57,10 @@ impl Model for Store {
 }
 
 impl Store {
-    /// Version 0, of these tables, in no night. Sessions of the last `versions` versions can be read, 2 to 4, and of one less
-    /// while a night is open. Takes O(n w) time for n rows of w cells in all tables.
+    /// Makes a store of version 0, with these tables, in no night. Sessions of the last `versions` versions can be read, 2 to 4, and of one
+    /// less while a night is open.
+    /// Fails for want of memory.
+    /// Takes O(n w) time for n rows of w cells in all tables.
     pub fn new(alloc: Global, tables: &[Bag], versions: usize) -> Result<Store, AllocError>
         requires tables { AreTables tables.now }
         requires least { 2 ≤ versions }
@@ -99,10 +102,11 @@ impl Store {
         }
     }
 
-    /// Does an operation. A refusal changes nothing that is shown; the fault is the first of [`StoreFault`]'s reasons that holds. Only a put
-    /// takes memory, and none where each of its rows was put in this night before.
-    /// Begin and GiveUp take O(V + t w log n) time for V views and the t rows that nights touched, of n of w cells; Commit O(1); Put
-    /// O(r w log(n + r)) for r rows.
+    /// Does an operation.
+    /// Fails with the first of [`StoreFault`]'s reasons that holds, and then changes nothing that is shown. Only a put takes memory, and
+    /// none where each of its rows was put in this night before.
+    /// Begin and GiveUp take O(V + t w log n) time for V views and the t rows that nights touched, of n of w cells. Commit takes O(1), and
+    /// a put O(r w log(n + r)) for r rows.
     pub fn apply(&mut self, op: &Op) -> Result<(), StoreFault>
         // Each list of operations that was shown is shown with this one behind it.
         ensures shows { OnOk result ((opening : Contents) (ops : List Operation) → Shows self.old opening ops → Shows self.new opening (ops ++ operation op.now ∷ [])) }
@@ -115,7 +119,7 @@ impl Store {
         self.change(op)
     }
 
-    /// Why this operation would be refused, if it would, want of memory aside.
+    /// Tells why this operation would be refused, want of memory aside; `None` where it would not.
     pub fn refuses(&self, op: &Op) -> Option<StoreFault>
         ensures { result ≡ refusal self.now (operation op.now) }
     {
@@ -126,7 +130,7 @@ impl Store {
         }
     }
 
-    /// The number of the current version, from 0.
+    /// Returns the number of the current version, from 0.
     pub fn number(&self) -> u64
         ensures { result ≡ self.now.number }
     {
@@ -137,7 +141,7 @@ impl Store {
         }
     }
 
-    /// Whether a night is open.
+    /// Tells whether a night is open.
     pub fn is_active(&self) -> bool
         ensures { result ≡ is_some self.now.draft }
     {
@@ -148,7 +152,7 @@ impl Store {
         }
     }
 
-    /// Whether sessions of this version can be read.
+    /// Tells whether sessions of this version can be read.
     pub fn unexpired(&self, version: u64) -> bool
         ensures { result ≡ unexpired self.now version }
     {
@@ -171,7 +175,7 @@ impl Store {
         }
     }
 
-    /// How many views a version has that sessions can be read of.
+    /// Returns how many views a version has that sessions can be read of.
     pub fn views(&self, version: u64) -> usize
         requires { IsTrue (unexpired self.now version) }
         ensures len { result ≡ length (kept_version self.now version) }
@@ -190,6 +194,7 @@ impl Store {
     ) -> Result<Page, AllocError>
         requires unexpired { IsTrue (unexpired self.now version) }
         requires view { view < length (kept_version self.now version) }
+        requires most { limit ≤ 256 }
         ensures page { IfOk result (λ page. page ≡ page_of (table_in (kept_version self.now version) view) (option_map (λ row. row.now) after.entry) limit) }
         ensures memory { OnErr result ((page_of (table_in (kept_version self.now version) view) (option_map (λ row. row.now) after.entry) limit).rows ≢ []) }
     {
@@ -200,8 +205,9 @@ impl Store {
         }
     }
 
-    /// A page of a view in a version that sessions can be read of: its first rows after this one, or from its beginning, at
-    /// most `limit`, which is 1 to 256. Memory is wanted for its rows alone.
+    /// Returns a page of a view in a version that sessions can be read of: its first rows after this one, or from its beginning. There are
+    /// at most `limit` rows, which is 1 to 256.
+    /// Fails for want of memory, and only where the page has rows.
     /// Takes O(w (log n + p)) time for n rows of w cells, p of which it walks through: also those that the version does not show.
     pub fn visible(
         &self,
@@ -221,7 +227,7 @@ impl Store {
         self.page(version, view, after, limit)
     }
 
-    /// How many views the current version has.
+    /// Returns how many views the current version has.
     pub fn current_views(&self) -> usize
         ensures len { result ≡ length (current self.now) }
         ensures of_list { (opening : Contents) (ops : List Operation) → Shows self.now opening ops → result ≡ length (versions_of opening ops).newest }
@@ -242,7 +248,9 @@ impl Store {
         }
     }
 
-    /// The table of a view in the current version. Memory is wanted for its rows alone. Takes O(n w) time for the view's n rows of w cells.
+    /// Returns the table of a view in the current version.
+    /// Fails for want of memory, and only where the table has rows.
+    /// Takes O(n w) time for the view's n rows of w cells.
     pub fn table(&self, view: usize) -> Result<Bag, AllocError>
         requires { view < length (current self.now) }
         ensures table { IfOk result (λ table. table ≡ table_in (current self.now) view) }
@@ -253,8 +261,9 @@ impl Store {
         self.table_of_view(view)
     }
 
-    /// What a row of a view counts in the last versions, where it is there: a row that is not there has no pairs, and one that is may have
-    /// none. Takes O(w log n) time for the view's n rows of w cells.
+    /// Returns what a row of a view counts in the last versions. It is `None` where the row is not there, while a row that is there may
+    /// have no pairs.
+    /// Takes O(w log n) time for the view's n rows of w cells.
     pub fn slots(&self, view: usize, row: &[i64]) -> Option<Slots>
         ensures { pairs_in result ≡ pairs_at self.now.rows view row.now }
     {
@@ -266,8 +275,9 @@ impl Store {
         Some(Slots { places })
     }
 
-    /// What sessions read is what rows have: in each version that sessions can be read of, and in the one that a night is writing, each row of
-    /// a view counts what a session of that version reads of the row's pairs. For proofs: it does nothing.
+    /// States that sessions read what rows have. Each row of a view counts what a session reads of the row's pairs, in each version that
+    /// can be read and in the one that a night is writing.
+    /// It does nothing, and is there for proofs.
     pub fn slots_are_read(&self, view: usize)
         requires { view < length (current self.now) }
         ensures kept { (version : ℕ) → IsTrue (unexpired self.now version) → CountsAreRead self.now view version (kept_version self.now version) }
@@ -280,7 +290,9 @@ impl Store {
         }
     }
 
-    /// A store that shows the same. Takes O((n + t) w) time for n rows of w cells, and t that the last nights touched.
+    /// Makes a store that shows what this one shows.
+    /// Fails for want of memory.
+    /// Takes O((n + t) w) time for n rows of w cells, and t that the last nights touched.
     pub fn copy(&self, alloc: Global) -> Result<Store, AllocError>
         ensures { IfOk result (λ copy. copy ≡ self.now) }
     {

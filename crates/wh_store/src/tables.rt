@@ -1,4 +1,4 @@
-//! The rows of all views, as a store keeps them.
+//! Shows the rows of all views, as a store keeps them.
 
 ghost use Rattle.std.specs.Prelude.{◌≡◌, ◌+◌, ◌<◌, ◌≤◌, ◌^◌, map, length, IfOk, OnOk, OnErr};
 ghost use Rattle.std.specs.List.{AllByRecursion};
@@ -11,7 +11,7 @@ use std::alloc::{AllocError, Global};
 use wh_row::{Bag, Row};
 use wh_versions::VersionTable;
 
-/// The rows of these tables, each table as version 0 alone.
+/// Returns the rows of these tables, each table as version 0 alone.
 pub(crate) fn first_tables<const N: usize>(
     alloc: Global,
     tables: &[Bag],
@@ -92,7 +92,7 @@ pub(crate) fn put_one<const N: usize>(
     written
 }
 
-/// The same rows of all views again.
+/// Makes copies of the tables of all views.
 pub(crate) fn copy_each<const N: usize>(
     alloc: Global,
     tables: &[VersionTable<N>],

@@ -47,7 +47,7 @@ pub one_way_check_costs : work_of v_over_a_b (sizes_of three_sizes) ones one_way
 unfolding sum_below has parts children_of is_new sizes_of
 one_way_check_costs = refl
 
--- the same where each row of A weighs 10, so that A counts as 100 rows, then 120, of which 40 change: 130 + 30 + 110 + 40 + 6
+-- where each row of A weighs 10, A counts as 100 rows, then 120, of which 40 change: 130 + 30 + 110 + 40 + 6
 pub weighted_work : work_of v_over_a_b (sizes_of (weighing 10 10 12 4 ∷ row 100 70 30 ∷ row 50 44 6 ∷ [])) ones one_way_check ≡ 316
 unfolding sum_below has parts children_of is_new sizes_of
 weighted_work = refl

@@ -14,8 +14,8 @@ pub record Judged : Type 0 where
   pub children : List (List ℕ)
   pub list : List Expression
 
--- What the rules say. Over a shape this is that no rule is broken at any place; where a view could be its own child, a Comp
--- from its own target would break no rule and yet not stand before itself.
+-- What the rules say. Over a shape this is that no rule is broken at any place. Where a view could be its own child, a Comp from its own
+-- target would break no rule and yet not stand before itself.
 pub record IsCorrect (shape : List (List ℕ)) (list : List Expression) : Type 0 where
   -- S1: a Comp is of a view, from one child of it or more, none twice
   pub allowed : (p v : ℕ) (ys : List ℕ) → At list p (Comp v ys) → (v < length shape) × (1 ≤ length ys) × Distinct ys × ((u : ℕ) → has ys u ≡ true → has (children_of shape v) u ≡ true)
@@ -25,9 +25,9 @@ pub record IsCorrect (shape : List (List ℕ)) (list : List Expression) : Type 0
   pub each : (v u : ℕ) → has (children_of shape v) u ≡ true → (p : ℕ) × (ys : List ℕ) × At list p (Comp v ys) × (has ys u ≡ true)
   -- S2: an Inst is of a view
   pub views : (p v : ℕ) → At list p (Inst v) → v < length shape
-  -- S2: no view has two
+  -- S2: no view has two Insts
   pub one_inst : (p q v : ℕ) → At list p (Inst v) → At list q (Inst v) → p ≡ q
-  -- S2: each view has one
+  -- S2: each view has an Inst
   pub an_inst : (v : ℕ) → v < length shape → (p : ℕ) × At list p (Inst v)
   -- S3: a Comp stands before the Inst of each view that it is from
   pub before_inst : (p q v u : ℕ) (ys : List ℕ) → At list p (Comp v ys) → has ys u ≡ true → At list q (Inst u) → p < q
@@ -135,7 +135,7 @@ pub record IsFirstPlace (rule : Rule) (shape : List (List ℕ)) (list : List Exp
   pub broken : Breaks rule shape list index
   pub first : (p : ℕ) → p < index → Breaks rule shape list p → ⊥
 
--- it is the first rule that is broken, and this is its first place
+-- this is the first rule that is broken, at its first place
 pub record IsFirstBroken (shape : List (List ℕ)) (list : List Expression) (rule : Rule) (place : ℕ) : Type 0 where
   pub there : IsFirstPlace rule shape list place
   pub kept : (earlier : Rule) → number_of earlier < number_of rule → Keeps earlier shape list

@@ -1,4 +1,4 @@
-//! The check, and what it makes.
+//! Judges strategies, so that whatever is carried out or reckoned with has a type that says that it is correct.
 
 ghost use Rattle.std.specs.Prelude.{◌≡◌, ◌↔◌, ◌<◌, ℕ, List, [], length, Some, IfOk, IfErr, IsTrue, IfNone, IfSome, MatchOption};
 ghost use Rattle.wh_dag.specs.Shape.{IsShape};
@@ -43,7 +43,7 @@ impl Model for Correct {
 }
 
 impl Correct {
-    /// The list.
+    /// Returns the list.
     pub fn strategy(&self) -> &Strategy
         ensures list { result.now ≡ self.now.list }
         ensures rules { IsCorrect self.now.children self.now.list }
@@ -51,21 +51,21 @@ impl Correct {
         &self.strategy
     }
 
-    /// The child lists of the shape that the list was judged over.
+    /// Returns the child lists of the shape that the list was judged over.
     pub fn children(&self) -> &ChildLists
         ensures { result.now ≡ self.now.children }
     {
         &self.children
     }
 
-    /// Whether the list was judged over this shape's child lists. Takes O(V C) for V views of at most C children each.
+    /// Returns whether the list was judged over this shape's child lists. Takes O(V C) for V views of at most C children each.
     pub fn is_of(&self, shape: &Shape) -> bool
         ensures { IsTrue result ↔ (self.now.children ≡ shape.now.children) }
     {
         self.children.is_same(shape.child_lists())
     }
 
-    /// Whether each Comp is from one view. Takes O(E) for E expressions.
+    /// Returns whether each Comp is from one view. Takes O(E) for E expressions.
     pub fn is_one_way(&self) -> bool
         ensures { IsTrue result ↔ IsOneWay self.now.list }
     {
@@ -82,7 +82,7 @@ fn each_from_one(list: &[Expression]) -> bool
     })
 }
 
-/// The first of these rules that the list breaks, and the first place where it does.
+/// Returns the first of these rules that the list breaks, and the first place where it does.
 fn first_of(rules: &[Rule], children: &ChildLists, list: &[Expression]) -> Option<(Rule, usize)>
     ensures none { IfNone result (PassEach rules.now children.now list.now) }
     ensures some { IfSome result (λ f. IsFirstFailed rules.now children.now list.now f.0 f.1) }
@@ -103,8 +103,8 @@ fn first_broken(children: &ChildLists, list: &[Expression]) -> Option<(Rule, usi
     first_of(&rules, children, list)
 }
 
-/// Judges a strategy over a shape. A refused one is dropped. Takes O(E² + (S + V) C) for E expressions with S sources in
-/// all, over V views of at most C children each.
+/// Judges a strategy over a shape. A refused one is dropped. The first rule that is broken is told before want of memory. Takes O(E² + (S +
+/// V) C) for E expressions with S sources in all, over V views of at most C children each.
 pub fn check(alloc: Global, shape: &Shape, strategy: Strategy) -> Result<Correct, CheckFault>
     ensures ok { IfOk result (λ c. (c.children ≡ shape.now.children) × (c.list ≡ strategy) × IsCorrect shape.now.children strategy) }
     ensures err { IfErr result (IsReason shape.now.children strategy) }
@@ -121,8 +121,8 @@ pub fn check(alloc: Global, shape: &Shape, strategy: Strategy) -> Result<Correct
     }
 }
 
-/// A law: a list is correct exactly where it breaks no rule at any place, so one that is refused is not; it keeps a
-/// rule exactly where the tests along the list pass, and the first test that fails is at the first place that breaks it.
+/// A law of the definitions: a list is correct exactly where it breaks no rule at any place, so one that is refused is not. It keeps a rule
+/// exactly where the tests along the list pass, and the first test that fails is at the first place that breaks it.
 pub fn rules_agree()
     ensures places { (shape : List (List ℕ)) (list : List Expression) → IsShape shape → (IsCorrect shape list ↔ ((rule : Rule) → Keeps rule shape list)) }
     ensures tests { (rule : Rule) (shape : List (List ℕ)) (list : List Expression) → (Keeps rule shape list ↔ Passes shape list rule) }

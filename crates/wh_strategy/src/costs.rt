@@ -1,4 +1,4 @@
-//! What a row costs.
+//! What a row costs, by which the work of strategies is weighed.
 
 ghost use Rattle.std.specs.Prelude.{◌≡◌, ◌≤◌, ◌↔◌, IsSome, IfSome};
 
@@ -21,7 +21,7 @@ pub struct Costs {
 }
 
 impl Costs {
-    /// None where a cost is not 1 to 1,000,000.
+    /// Takes what a row costs. `None` where a cost is not 1 to 1,000,000.
     pub fn new(comp: u64, inst: u64) -> Option<Costs>
         ensures within { IsSome result ↔ ((1 ≤ comp) × (comp ≤ 1000000) × (1 ≤ inst) × (inst ≤ 1000000)) }
         ensures comp { IfSome result (λ c. c.comp ≡ comp) }

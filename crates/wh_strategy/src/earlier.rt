@@ -1,4 +1,4 @@
-//! What stands earlier than a place, in tables, so that a list is gone over once and not again at each of its places.
+//! Tables of what stands earlier than a place, so that a list is gone over once and not again at each of its places.
 
 ghost use Rattle.std.specs.Prelude.{◌≡◌, ◌||◌, ◌<◌, ℕ, List, [], ◌∷◌, ◌++◌, false, length, slice_index_or};
 ghost use Rattle.wh_dag.specs.Shape.{has};
@@ -10,14 +10,14 @@ ghost use Rattle.wh_strategy.specs.declared.expression.Expression.{Expression};
 use crate::expression::Expression;
 use wh_dag::{MAX_VIEWS, has_view};
 
-/// The views that are installed earlier.
+/// A table of the views that are installed earlier.
 #[derive(Drop)]
 pub struct Installed {
     flags: [bool; MAX_VIEWS],
 }
 
 impl Installed {
-    /// None is installed before the first place.
+    /// Makes the table before the first place, where no view is installed.
     pub fn new() -> Installed
         ensures { TellsInstalled result.flags [] }
     {
@@ -26,7 +26,7 @@ impl Installed {
         }
     }
 
-    /// Notes the expression that follows.
+    /// Notes the expression that follows. Takes O(1).
     pub fn note(&mut self, e: &Expression)
         ensures { (before : List Expression) → TellsInstalled self.old.flags before → TellsInstalled self.new.flags (before ++ e.now ∷ []) }
     {
@@ -37,7 +37,7 @@ impl Installed {
         }
     }
 
-    /// Whether one of these, which were noted, installs u.
+    /// Returns whether one of these, which were noted, installs u. Takes O(1) for a view of a shape.
     pub fn has(&self, before: &[Expression], u: usize) -> bool
         requires { TellsInstalled self.now.flags before.now }
         ensures { result ≡ is_installed before.now u }
@@ -50,7 +50,7 @@ impl Installed {
     }
 }
 
-/// Whether one of these installs u.
+/// Returns whether one of these installs u.
 fn installs(before: &[Expression], u: usize) -> bool
     ensures { result ≡ is_installed before.now u }
 {
@@ -59,14 +59,14 @@ fn installs(before: &[Expression], u: usize) -> bool
         .any(|e| matches!(e, Expression::Inst(v) if *v == u))
 }
 
-/// The sources that earlier Comps of each view took.
+/// A table of the sources that earlier Comps of each view took.
 #[derive(Drop)]
 pub struct Taken {
     rows: [[bool; MAX_VIEWS]; MAX_VIEWS],
 }
 
 impl Taken {
-    /// None is taken before the first place.
+    /// Makes the table before the first place, where no source is taken.
     pub fn new() -> Taken
         ensures { TellsTaken result.rows [] }
     {
@@ -75,7 +75,7 @@ impl Taken {
         }
     }
 
-    /// Notes the expression that follows.
+    /// Notes the expression that follows. Takes O(S) for S sources.
     pub fn note(&mut self, e: &Expression)
         ensures { (before : List Expression) → TellsTaken self.old.rows before → TellsTaken self.new.rows (before ++ e.now ∷ []) }
     {
@@ -86,7 +86,7 @@ impl Taken {
         }
     }
 
-    /// Whether one of these, which were noted, is a Comp of v from u and perhaps others.
+    /// Returns whether one of these, which were noted, is a Comp of v from u and perhaps others. Takes O(1) for views of a shape.
     pub fn has(&self, before: &[Expression], v: usize, u: usize) -> bool
         requires { TellsTaken self.now.rows before.now }
         ensures { result ≡ is_taken before.now v u }
@@ -110,7 +110,7 @@ fn mark(row: &mut [bool; MAX_VIEWS], views: &[usize])
     }
 }
 
-/// Whether one of these is a Comp of v from u and perhaps others.
+/// Returns whether one of these is a Comp of v from u and perhaps others.
 fn takes(before: &[Expression], v: usize, u: usize) -> bool
     ensures { result ≡ is_taken before.now v u }
 {
@@ -120,14 +120,14 @@ fn takes(before: &[Expression], v: usize, u: usize) -> bool
     })
 }
 
-/// The views whose changes earlier Comps read.
+/// A table of the views whose changes earlier Comps read.
 #[derive(Drop)]
 pub struct Read {
     flags: [bool; MAX_VIEWS],
 }
 
 impl Read {
-    /// None is read before the first place.
+    /// Makes the table before the first place, where no view is read.
     pub fn new() -> Read
         ensures { TellsRead result.flags [] }
     {
@@ -136,7 +136,7 @@ impl Read {
         }
     }
 
-    /// Notes the expression that follows.
+    /// Notes the expression that follows. Takes O(S) for S sources.
     pub fn note(&mut self, e: &Expression)
         ensures { (before : List Expression) → TellsRead self.old.flags before → TellsRead self.new.flags (before ++ e.now ∷ []) }
     {
@@ -145,7 +145,7 @@ impl Read {
         }
     }
 
-    /// Whether one of these, which were noted, reads v's changes.
+    /// Returns whether one of these, which were noted, reads v's changes. Takes O(1) for a view of a shape.
     pub fn has(&self, before: &[Expression], v: usize) -> bool
         requires { TellsRead self.now.flags before.now }
         ensures { result ≡ list_any (reads v) before.now }
@@ -158,7 +158,7 @@ impl Read {
     }
 }
 
-/// Whether one of these reads v's changes.
+/// Returns whether one of these reads v's changes.
 fn reads_view(before: &[Expression], v: usize) -> bool
     ensures { result ≡ list_any (reads v) before.now }
 {
@@ -168,7 +168,7 @@ fn reads_view(before: &[Expression], v: usize) -> bool
     })
 }
 
-/// All tables.
+/// All tables of what stands earlier than a place.
 #[derive(Drop)]
 pub struct Tables {
     /// The views that are installed earlier.
@@ -180,7 +180,7 @@ pub struct Tables {
 }
 
 impl Tables {
-    /// Nothing stands before the first place.
+    /// Makes the tables before the first place, where nothing stands earlier.
     pub fn new() -> Tables
         ensures { Tells result [] }
     {
@@ -191,7 +191,7 @@ impl Tables {
         }
     }
 
-    /// Notes the expression that follows.
+    /// Notes the expression that follows, in each table.
     pub fn note(&mut self, e: &Expression)
         ensures { (before : List Expression) → Tells self.old before → Tells self.new (before ++ e.now ∷ []) }
     {

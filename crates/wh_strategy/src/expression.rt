@@ -1,4 +1,4 @@
-//! Expressions and lists of them.
+//! Expressions and lists of them, of which strategies are made, correct or not.
 
 ghost use Rattle.std.specs.Prelude.{◌≡◌, ◌≢◌, [], IfOk, OnErr};
 ghost use Rattle.wh_strategy.specs.Expression.{HasSources};
@@ -28,14 +28,14 @@ impl Sources {
         Sources { views }
     }
 
-    /// The views in their order.
+    /// Returns the views in their order.
     pub fn as_slice(&self) -> &[usize]
         ensures { result.now ≡ self.now }
     {
         &self.views
     }
 
-    /// A copy of the views. Takes no memory where there is none.
+    /// Makes a copy of the views. Takes no memory where there is none.
     pub fn copy(&self, alloc: Global) -> Result<Sources, AllocError>
         ensures copy { IfOk result (λ copy. copy ≡ self.now) }
         ensures memory { OnErr result (self.now ≢ []) }
@@ -63,7 +63,7 @@ pub enum Expression {
 }
 
 impl Expression {
-    /// Another expression of the same form. An Inst and a Comp without sources take no memory.
+    /// Makes another expression of the same form. An Inst and a Comp without sources take no memory.
     pub fn copy(&self, alloc: Global) -> Result<Expression, AllocError>
         ensures copy { IfOk result (λ copy. copy ≡ self.now) }
         ensures memory { OnErr result (HasSources self.now) }
@@ -98,7 +98,7 @@ impl Strategy {
         Strategy { list }
     }
 
-    /// The expressions in their order.
+    /// Returns the expressions in their order.
     pub fn as_slice(&self) -> &[Expression]
         ensures { result.now ≡ self.now }
     {

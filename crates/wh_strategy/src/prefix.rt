@@ -1,4 +1,4 @@
-//! The rules as tests of an expression and those that stand before it.
+//! The rules as tests of an expression and those that stand before it, which find the first place that breaks one.
 
 ghost use Rattle.std.specs.Prelude.{◌≡◌, [], not};
 ghost use Rattle.std.specs.List.{list_any};
@@ -160,7 +160,7 @@ fn lacking(rule: Rule, children: &ChildLists, tables: &Tables, list: &[Expressio
     }
 }
 
-/// The first place at which the list breaks the rule, counted from 1.
+/// Returns the first place at which the list breaks the rule, counted from 1.
 #[tactic(auto, unfolding(crate::specs::Tests::place_from))]
 pub fn first_place(rule: Rule, children: &ChildLists, list: &[Expression]) -> Option<usize>
     ensures { result ≡ place_from rule children.now [] list.now }

@@ -1,4 +1,4 @@
-//! The names of the rules.
+//! The names of the rules, by which a refusal says what is wrong.
 
 ghost use Rattle.std.specs.Prelude.{◌≡◌};
 ghost use Rattle.wh_strategy.specs.Rules.{number_of};
@@ -21,7 +21,7 @@ pub enum Rule {
 }
 
 impl Rule {
-    /// The rule's number: 1 for S1.
+    /// Returns the rule's number: 1 for S1.
     pub fn number(self) -> u8
         ensures { result ≡ number_of self }
     {

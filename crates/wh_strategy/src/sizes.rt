@@ -1,4 +1,4 @@
-//! The sizes of the views, and what each view counts as by the weight of its rows.
+//! The sizes of the views, and what each view counts as by the weight of its rows. Their limits keep all work within 128 bits.
 
 ghost use Rattle.std.specs.Prelude.{◌≡◌, ◌↔◌, ◌<◌, length, IfOk, IfErr, IsTrue, slice_get, Some};
 ghost use Rattle.wh_strategy.specs.Sizes.{IsSizeRow, IsLight, AreSizeRows, IsFirstOutside, size_of, sizes_of};
@@ -37,7 +37,7 @@ pub struct Size {
 }
 
 impl SizeRow {
-    /// Whether no number of rows is above [`MAX_ROWS`], post is no further from pre than the change, and the weight is 1 to
+    /// Returns whether no number of rows is above [`MAX_ROWS`], post is no further from pre than the change, and the weight is 1 to
     /// [`MAX_WEIGHT`].
     pub fn is_within(&self) -> bool
         ensures { IsTrue result ↔ IsSizeRow self.now }
@@ -51,7 +51,7 @@ impl SizeRow {
             && self.weight <= MAX_WEIGHT
     }
 
-    /// What the view counts as: each number times the weight.
+    /// Returns what the view counts as: each number times the weight.
     fn weighed(self) -> Size
         requires { IsSizeRow self }
         ensures value { result ≡ size_of self }
@@ -65,8 +65,8 @@ impl SizeRow {
     }
 }
 
-/// The first view of which a number of rows is above 2^40, or post is further from pre than the change, or the weight is not
-/// 1 to 1,000.
+/// The first view whose row is outside its limits: a number is above 2^40, post is further from pre than the change, or the weight is not 1
+/// to 1,000.
 #[derive(Debug, Clone, Copy, PartialEq, Eq)]
 pub struct OutOfRange(pub usize);
 
@@ -89,8 +89,8 @@ impl Model for Sizes {
 }
 
 impl Sizes {
-    /// Takes the rows, one for each view by its number. Takes no memory; rows that are refused are dropped. Takes O(V) for V
-    /// views.
+    /// Takes the rows, one for each view by its number. Fails with the first view whose row is outside its limits; the rows are then
+    /// dropped. Takes no memory. Takes O(V) for V views.
     pub fn new(rows: Vec<SizeRow>) -> Result<Sizes, OutOfRange>
         ensures ok { IfOk result (λ s. (s ≡ rows.items) × AreSizeRows rows.items) }
         ensures err { IfErr result (λ e. IsFirstOutside rows.items e.0) }
@@ -103,7 +103,7 @@ impl Sizes {
         Ok(Sizes { rows })
     }
 
-    /// How many views have sizes here.
+    /// Returns how many views have sizes here.
     pub fn len(&self) -> usize
         ensures len { result ≡ length self.now }
         ensures within { AreSizeRows self.now }
@@ -111,14 +111,14 @@ impl Sizes {
         self.rows.len()
     }
 
-    /// Whether no view has sizes here.
+    /// Returns whether no view has sizes here.
     pub fn is_empty(&self) -> bool
         ensures { IsTrue result ↔ (length self.now ≡ 0) }
     {
         self.rows.is_empty()
     }
 
-    /// The sizes of a view, as they were handed in.
+    /// Returns the sizes of a view, as they were handed in.
     pub fn row(&self, view: usize) -> SizeRow
         requires { view < length self.now }
         ensures value { slice_get self.now view ≡ Some result }
@@ -127,7 +127,7 @@ impl Sizes {
         self.rows[view]
     }
 
-    /// What a view counts as wherever work is reckoned: its sizes, each times its weight.
+    /// Returns what a view counts as wherever work is reckoned: its sizes, each times its weight.
     #[tactic(auto, unfolding(crate::specs::Sizes::sizes_of))]
     pub fn size(&self, view: usize) -> Size
         requires { view < length self.now }

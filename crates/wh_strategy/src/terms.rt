@@ -1,4 +1,4 @@
-//! The work of a strategy: the terms of each Comp in closed form, and the rows of each Inst.
+//! The work of a strategy: the terms of each Comp in closed form, so that none is gone through, and the rows of each Inst.
 
 ghost use Rattle.std.specs.Prelude.{◌≡◌, ◌+◌, ◌*◌, ◌^◌, ◌<◌, ◌≤◌, ℕ, length, take, Some, true, slice_get};
 ghost use Rattle.std.specs.List.{sum_by, All};
@@ -48,7 +48,7 @@ fn change_rows(sizes: &Sizes, view: usize) -> u64
     sizes.size(view).change
 }
 
-/// What all terms of a Comp from `sources` read of one child.
+/// Returns what all terms of a Comp from `sources` read of one child.
 fn child_rows(change: u64, state: u64, sources: &[usize], child: usize) -> u128
     requires once { Distinct sources.now }
     requires some { 1 ≤ length sources.now }
@@ -67,7 +67,7 @@ fn child_rows(change: u64, state: u64, sources: &[usize], child: usize) -> u128
     }
 }
 
-/// What a Comp of a view over `children` from `sources` reads at this place, over all its terms.
+/// Returns what a Comp of a view over `children` from `sources` reads at this place, over all its terms.
 fn term_rows(
     sizes: &Sizes,
     installed: &Installed,
@@ -95,7 +95,7 @@ fn term_rows(
     total
 }
 
-/// What the expression at this place costs.
+/// Returns what the expression at this place costs.
 fn place_cost(
     children: &ChildLists,
     sizes: &Sizes,
@@ -127,8 +127,8 @@ fn place_cost(
     }
 }
 
-/// The work of a correct strategy at these sizes and costs, in cost times rows by weight. Takes no memory.
-/// Takes O(V C²) for V views of at most C children each.
+/// Returns the work of a correct strategy at these sizes and costs, in cost times rows by weight. Takes no memory. Takes O(V C²) for V
+/// views of at most C children each.
 #[tactic(auto, using(crate::proofs::SumsBelow::sums))]
 pub fn work(shape: &Shape, sizes: &Sizes, costs: Costs, correct: &Correct) -> u128
     requires same { correct.now.children ≡ shape.now.children }

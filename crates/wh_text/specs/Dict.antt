@@ -3,7 +3,7 @@ use Rattle.std.specs.Prelude.{◌≡◌, true, ℕ, ℤ, pos, negsuc, List, [], 
 use Rattle.std.specs.List.{list_any, position_or_len}
 use Rattle.std.specs.Str.{bytes_eq}
 
--- the text is among them
+-- the text is among the texts
 abbrev pub HasText : List (List ℕ) → List ℕ → Type 0
 HasText texts text = list_any (bytes_eq text) texts ≡ true
 

@@ -54,7 +54,7 @@ abbrev pub shape_number : ShapeFault → ℕ
 shape_number shape.Memory = 11
 shape_number _ = 14
 
--- each kind of fault has its number, from 1
+-- the number of a fault, by its kind, from 1
 abbrev pub fault_number : LoadFault → ℕ
 fault_number fault.Toml = 1
 fault_number (fault.Key k) = 2

@@ -8,7 +8,7 @@ abbrev pub ◌>>=◌ : {A B : Type 0} → Result A LoadFault → (A → Result B
 Ok value >>= next = next value
 Err fault >>= next = Err fault
 
--- the fault, if there is one, else this
+-- the fault, if there is one, else the answer behind it
 abbrev pub or_fault : {A : Type 0} → Option LoadFault → Result A LoadFault → Result A LoadFault
 or_fault None other = other
 or_fault (Some fault) other = Err fault

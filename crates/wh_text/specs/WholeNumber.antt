@@ -8,7 +8,7 @@ use Rattle.std.specs.Str.Parse.{signed_digits_value, without_leading_sign}
 abbrev pub are_digits : List ℕ → Bool
 are_digits text = nat_lt 0 (length text) && list_all (λ digit. nat_lt (digit_value digit) 10) text
 
--- from -2^63 to 2^63 - 1
+-- the number is one from -2^63 to 2^63 - 1
 abbrev pub is_i64 : ℤ → Bool
 is_i64 (pos n) = nat_lt n (2 ^ 63)
 is_i64 (negsuc n) = nat_lt n (2 ^ 63)

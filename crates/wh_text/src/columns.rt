@@ -1,10 +1,10 @@
-//! The columns of a view.
+//! The columns of a view, by which cells are read and written.
 ghost use Rattle.std.specs.Prelude.{◌≡◌, string_bytes, true};
 ghost use Rattle.std.specs.Str.{is_utf8};
 
 use std::marker::Model;
 
-/// What the cells of a column are: each is a whole number, in a column of texts the number that a dictionary gives the text.
+/// What the cells of a column are. Each is a whole number, in a column of texts the number that a dictionary gives the text.
 #[derive(Debug, Clone, Copy, PartialEq, Eq)]
 pub enum Kind {
     /// Whole numbers within i64.
@@ -29,7 +29,7 @@ impl Model for Column {
 }
 
 impl Column {
-    /// The column of this name and kind. Whether the name has the form of a name is for the caller to judge.
+    /// Makes the column of this name and kind. Whether the name has the form of a name is for the caller to judge.
     pub fn new(name: String, kind: Kind) -> Column
         ensures name { result.name ≡ string_bytes name }
         ensures kind { result.kind ≡ kind }
@@ -37,14 +37,14 @@ impl Column {
         Column { name, kind }
     }
 
-    /// The column's name.
+    /// Returns the column's name.
     pub fn name(&self) -> &str
         ensures { result.now ≡ self.now.name }
     {
         self.name.as_str()
     }
 
-    /// The kind of the column's cells.
+    /// Returns the kind of the column's cells.
     pub fn kind(&self) -> Kind
         ensures { result ≡ self.now.kind }
     {

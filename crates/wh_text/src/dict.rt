@@ -1,4 +1,4 @@
-//! The dictionary of texts.
+//! The dictionary of texts, by which a row has whole numbers for cells alone.
 ghost use Rattle.std.specs.Prelude.{◌≡◌, ◌≤◌, ◌<◌, ◌^◌, List, [], All, pos, length, take, IfOk, IsTrue, ◌↔◌, OnOk, OnErr, IsUtf8, option_map};
 ghost use Rattle.std.specs.List.{IsDistinct};
 ghost use Rattle.std.specs.Str.{bytes_eq};
@@ -24,7 +24,7 @@ impl Model for Dict {
 }
 
 impl Dict {
-    /// A dictionary of no texts.
+    /// Makes a dictionary of no texts. Takes no memory.
     pub fn new(alloc: Global) -> Dict
         ensures { result ≡ [] }
     {
@@ -33,7 +33,7 @@ impl Dict {
         }
     }
 
-    /// How many texts there are.
+    /// Returns the number of texts.
     pub fn len(&self) -> usize
         ensures len { result ≡ length self.now }
         ensures small { result < 2 ^ 63 }
@@ -41,16 +41,16 @@ impl Dict {
         self.texts.len()
     }
 
-    /// Whether there are no texts.
+    /// Returns whether there are no texts.
     pub fn is_empty(&self) -> bool
         ensures { IsTrue result ↔ (self.now ≡ []) }
     {
         self.texts.is_empty()
     }
 
-    /// The number of a text, which gets the next one where it is new. Only a new text takes memory. Takes O(n) on
-    /// average for n bytes of text.
-    pub fn number(&mut self, alloc: Global, text: &str) -> Result<i64, AllocError>
+    /// Returns the number of a text, which gets the next one where it is new. Only a new text takes memory. An error leaves the dictionary
+    /// as it was. Takes O(n) on average for n bytes of text.
+    pub fn intern(&mut self, alloc: Global, text: &str) -> Result<i64, AllocError>
         ensures number { IfOk result (λ number. number ≡ pos (number_of_text self.old text.now)) }
         ensures texts { OnOk result (self.new ≡ with_text self.old text.now) }
         ensures memory { OnErr result (¬ (HasText self.old text.now)) }
@@ -61,7 +61,7 @@ impl Dict {
         Ok(place as i64)
     }
 
-    /// The place of a text, which is put behind the others where it is new.
+    /// Returns the place of a text, which is put behind the others where it is new.
     fn place(&mut self, alloc: Global, text: &str) -> Result<usize, AllocError>
         ensures place { IfOk result (λ place. place ≡ number_of_text self.old text.now) }
         ensures within { IfOk result (λ place. place < length self.new) }
@@ -77,7 +77,7 @@ impl Dict {
         Ok(place)
     }
 
-    /// The text that a cell stands for: none where no text has this number.
+    /// Returns the text that a cell stands for: none where no text has this number. Takes O(1).
     pub fn text(&self, number: i64) -> Option<&str>
         ensures { option_map (λ text. text.now) result ≡ text_of_cell self.now number }
     {
@@ -86,7 +86,7 @@ impl Dict {
         Some(text.as_str())
     }
 
-    /// Each text is UTF-8 and has one number, an i64. For proofs: it does nothing.
+    /// States that each text is UTF-8 and has one number, an i64. For proofs: it does nothing.
     pub fn texts_are_numbered(&self)
         ensures distinct { IsDistinct bytes_eq self.now }
         ensures utf8 { All IsUtf8 self.now }
@@ -95,7 +95,7 @@ impl Dict {
         let _ = self.texts.len();
     }
 
-    /// Keeps the first texts, this many, and forgets the others.
+    /// Keeps the first `len` texts, and forgets the others.
     pub fn truncate(&mut self, len: usize)
         ensures { self.new ≡ take len self.old }
     {

@@ -1,4 +1,4 @@
-//! What is wrong with an input.
+//! What is wrong with an input, so exactly that its number and its printed line are proved.
 ghost use Rattle.std.specs.Prelude.{◌≡◌, ◌++◌, OnOk, OnErr};
 ghost use Rattle.wh_text.specs.FaultText.{key_text, fault_number, fault_text, shape_text};
 ghost use Rattle.wh_text.specs.Inner.FaultText.{end_text};
@@ -35,7 +35,7 @@ pub enum Key {
 }
 
 impl Key {
-    /// The key as the catalogue writes it.
+    /// Returns the key as the catalogue writes it.
     pub fn text(self) -> &'static str
         ensures { result.now ≡ key_text self }
     {
@@ -73,17 +73,17 @@ pub enum LoadFault {
     Header,
     /// The sizes of this view are missing, double or out of range, or the name is no view's.
     Sizes(Word),
-    /// A line of a strategy.
+    /// A line of a strategy is at fault: the one of this number.
     Strategy(usize),
-    /// A line of a plan.
+    /// A line of a plan is at fault: the one of this number.
     Plan(usize),
-    /// A line of a schedule.
+    /// A line of a schedule is at fault: the one of this number.
     Schedule(usize),
     /// A read failed.
     Read,
     /// Memory was refused.
     Memory,
-    /// A part is missing, repeated, unknown or misplaced: the first word of its heading.
+    /// A part is missing, repeated, unknown or misplaced: the one of this word, the first of its heading.
     Part(Word),
     /// The input is longer than the limit.
     TooLong,
@@ -92,7 +92,8 @@ pub enum LoadFault {
 }
 
 impl LoadFault {
-    /// The fault's number, from 1 to 14. Lines of strategies, plans and schedules share one, and memory has one wherever it was refused.
+    /// Returns the fault's number, from 1 to 14. Lines of strategies, plans and schedules share one, and memory has one wherever it was
+    /// refused.
     pub fn number(&self) -> u8
         ensures { result ≡ fault_number self.now }
     {
@@ -114,7 +115,7 @@ impl LoadFault {
         }
     }
 
-    /// What the line that the program prints for the fault begins with, and what it ends with.
+    /// Returns what the line that the program prints for the fault begins with, and what it ends with.
     fn line(&self) -> (&'static str, End<'_>)
         ensures { result.0.now ++ end_text result.1 ≡ fault_text self.now }
     {
@@ -138,8 +139,8 @@ impl LoadFault {
         }
     }
 
-    /// Appends the line that the program prints for the fault, without the LF, which the caller adds. A word stands as it
-    /// was written, so the line need not be UTF-8. Where memory fails, nothing is appended.
+    /// Appends the line that the program prints for the fault, without the LF, which the caller adds. A word stands as it was written, so
+    /// the line need not be UTF-8. Where memory fails, nothing is appended.
     pub fn append_text(&self, alloc: Global, out: &mut Vec<u8>) -> Result<(), AllocError>
         ensures ok { OnOk result (out.new.items ≡ out.old.items ++ fault_text self.now) }
         ensures kept { OnErr result (out.new.items ≡ out.old.items) }
@@ -166,7 +167,7 @@ enum End<'a> {
     Number(usize),
 }
 
-/// What the line of a shape's fault begins with, and what it ends with.
+/// Returns what the line of a shape's fault begins with, and what it ends with.
 fn shape_line(fault: &ShapeFault) -> (&'static str, End<'_>)
     ensures { result.0.now ++ end_text result.1 ≡ shape_text fault.now }
 {
@@ -182,7 +183,7 @@ fn shape_line(fault: &ShapeFault) -> (&'static str, End<'_>)
     (front, End::Word(name.as_str().as_bytes()))
 }
 
-/// The fault's line, with a word's bytes escaped where they are no plain ASCII.
+/// Writes the fault's line, with a word's bytes escaped where they are no plain ASCII.
 impl Display for LoadFault {
     fn fmt<W: fmt::Write>(&self, f: &mut Formatter<W>) -> fmt::Result {
         let (front, end) = self.line();

@@ -1,10 +1,10 @@
-//! Bytes as lines, which are cut after each LF.
+//! Cuts bytes into lines, each after its LF, as all texts have them.
 ghost use Rattle.std.specs.Prelude.{◌≡◌, ◌+◌, ◌<◌, ◌≤◌, ◌∷◌, length, take, drop};
 ghost use Rattle.wh_text.specs.Line.{whole_lines, without_lf, is_blank};
 
 use memchr::memchr;
 
-/// The length of the first line, with its LF.
+/// Returns the length of the first line, with its LF.
 fn line_len(text: &[u8]) -> usize
     requires { 0 < length text.now }
     ensures some { 0 < result }
@@ -17,7 +17,7 @@ fn line_len(text: &[u8]) -> usize
     }
 }
 
-/// The first line with its LF, and what stands below it. Takes O(n) for n bytes of that line.
+/// Cuts off the first line: returns it with its LF, and what stands below it. Takes O(n) for n bytes of that line.
 pub fn first_line(text: &[u8]) -> (&[u8], &[u8])
     requires { 0 < length text.now }
     ensures some { 0 < length result.0.now }
@@ -29,7 +29,7 @@ pub fn first_line(text: &[u8]) -> (&[u8], &[u8])
     text.split_at(line_len(text))
 }
 
-/// The line without the LF that ends it.
+/// Returns the line without the LF that ends it.
 pub fn without_lf(line: &[u8]) -> &[u8]
     ensures { result.now ≡ without_lf line.now }
 {
@@ -40,7 +40,7 @@ pub fn without_lf(line: &[u8]) -> &[u8]
     }
 }
 
-/// Whether the byte is a blank.
+/// Returns whether the byte is a blank: a space or a tab.
 pub fn is_blank(byte: u8) -> bool
     ensures { result ≡ is_blank byte }
 {

@@ -1,4 +1,4 @@
-//! The names of the views of a shape.
+//! The names of the views of a shape, by which a word of a text is looked up.
 ghost use Rattle.std.specs.Prelude.{◌≡◌, ◌≢◌, ◌<◌, ℕ, List, [], Some, None, length, string_bytes, IfOk, OnOk, OnErr, if◌then◌else◌};
 ghost use Rattle.std.specs.Option.{option_or};
 ghost use Rattle.std.specs.Str.{bytes_eq};
@@ -31,8 +31,7 @@ impl Model for Names {
 }
 
 impl Names {
-    /// The names of the views of this shape. Where it has no view, no memory is taken. Takes O(n) on average for n bytes
-    /// of names.
+    /// Makes the names of the views of this shape. Where it has no view, no memory is taken. Takes O(n) on average for n bytes of names.
     pub fn of(alloc: Global, shape: &Shape) -> Result<Names, AllocError>
         ensures names { IfOk result (λ names. names ≡ shape.now.names) }
         ensures memory { OnErr result (shape.now.names ≢ []) }
@@ -47,16 +46,16 @@ impl Names {
         Ok(Names { names, numbers })
     }
 
-    /// How many views there are.
+    /// Returns how many views there are.
     pub fn len(&self) -> usize
         ensures { result ≡ length self.now }
     {
         self.names.len()
     }
 
-    /// The view whose name is this word, or `None` where it is no view's; a word that is not UTF-8 is no name. A name that
-    /// several views had would mean the first of them. Takes O(n) on average for n bytes of the word.
-    pub fn number(&self, word: &[u8]) -> Option<usize>
+    /// Returns the view whose name is this word, or `None` where it is no view's. A word that is not UTF-8 is no name. A name that several
+    /// views had would mean the first of them. Takes O(n) on average for n bytes of the word.
+    pub fn position(&self, word: &[u8]) -> Option<usize>
         ensures { result ≡ number_of self.now word.now }
     {
         let numbers = &self.numbers;
@@ -66,7 +65,7 @@ impl Names {
         }
     }
 
-    /// The name of the view.
+    /// Returns the name of the view.
     pub fn name(&self, view: usize) -> &str
         requires { view < length self.now }
         ensures { result.now ≡ name_of self.now view }
@@ -75,8 +74,8 @@ impl Names {
     }
 }
 
-/// Gives the name the number of this view, unless it has that of an earlier one: the type of a shape does not say that no
-/// two views have one name.
+/// Gives the name the number of this view, unless it has that of an earlier one. The type of a shape does not say that no two views have
+/// one name.
 fn note(numbers: &mut IndexMap<String, usize>, name: String, view: usize) -> Result<(), AllocError>
     ensures { OnOk result ((word : List ℕ) → get_by_text numbers.new word
         ≡ option_or (get_by_text numbers.old word) (if bytes_eq (string_bytes name) word then Some view else None)) }

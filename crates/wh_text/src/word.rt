@@ -1,4 +1,4 @@
-//! A word of the input.
+//! A word of the input, as a fault tells it.
 ghost use Rattle.std.specs.Prelude.{◌≡◌, ◌≢◌, [], IfOk, OnErr};
 
 use std::alloc::{AllocError, Global};
@@ -19,7 +19,7 @@ impl Model for Word {
 }
 
 impl Word {
-    /// A copy of these bytes. An empty one takes no memory. Takes O(n) for n bytes.
+    /// Makes a word that is a copy of these bytes. An empty one takes no memory. Takes O(n) for n bytes.
     pub fn new(alloc: Global, bytes: &[u8]) -> Result<Word, AllocError>
         ensures word { IfOk result (λ word. word ≡ bytes.now) }
         ensures memory { OnErr result (bytes.now ≢ []) }
@@ -29,21 +29,21 @@ impl Word {
         Ok(Word { bytes: copy })
     }
 
-    /// The word that has these bytes.
+    /// Takes these bytes as a word, with no copy.
     pub fn from_vec(bytes: Vec<u8>) -> Word
         ensures { result ≡ bytes.items }
     {
         Word { bytes }
     }
 
-    /// The bytes.
+    /// Returns the bytes.
     pub fn as_slice(&self) -> &[u8]
         ensures { result.now ≡ self.now }
     {
         self.bytes.as_slice()
     }
 
-    /// The bytes, given back.
+    /// Gives the bytes back, with no copy.
     pub fn into_vec(self) -> Vec<u8>
         ensures { result.items ≡ self }
     {

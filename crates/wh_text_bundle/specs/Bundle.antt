@@ -39,17 +39,17 @@ within_scope scope.Any above = []
 abbrev pub is_headed : List ℕ → RawPart → Bool
 is_headed text part = bytes_eq text (text_of_heading part)
 
--- the same heading stands above, within its scope
+-- the heading of this text stands above, within its scope
 abbrev pub is_repeated : Heading → List ℕ → List RawPart → Bool
 is_repeated heading text above = list_any (is_headed text) (within_scope (scope_of heading) above)
 
--- a night that is not read so: any further one where one is read, and one with lines that are not blank where all are
+-- A night that is not read so. That is any further one where one is read, and one with lines that are not blank where all are.
 abbrev pub is_bad_night : Nights → Heading → List ℕ → Bool
 is_bad_night First Night body = true
 is_bad_night All Night body = not (is_blank_text body)
 is_bad_night _ _ _ = false
 
--- a part with this heading, if any, is at fault below others: unknown, repeated, or a night that is not read so
+-- a part with this heading, if any, is at fault below others: it is unknown, repeated, or a night that is not read so
 abbrev pub is_fault : Nights → List RawPart → RawPart → Option Heading → Bool
 is_fault nights above part None = true
 is_fault nights above part (Some heading) = is_repeated heading (text_of_heading part) above || is_bad_night nights heading part.body

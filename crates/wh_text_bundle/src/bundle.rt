@@ -1,4 +1,4 @@
-//! The parts of a bundle.
+//! The parts of a bundle, cut from its bytes once and found by their headings.
 ghost use Rattle.std.specs.Prelude.{◌≡◌, ◌≢◌, [], None, IfOk, IfErr, OnOk, OnErr};
 ghost use Rattle.wh_text_bundle.specs.Bundle.{fault_of, parts_of};
 ghost use Rattle.wh_text_bundle.specs.Cut.{bytes_of, cut};
@@ -49,29 +49,29 @@ impl<'a> Bundle<'a> {
     ghost use Rattle.std.specs.Prelude.{◌≡◌, option_copied};
     ghost use Rattle.wh_text_bundle.specs.Find.{found, parts_of_night, nights_of};
 
-    /// The parts in the order in which they stand.
+    /// Returns the parts in the order in which they stand.
     pub fn parts(&self) -> &[Part<'a>]
         ensures { result.now ≡ self.now }
     {
         self.parts.as_slice()
     }
 
-    /// How many nights there are: one from the start, and one for each `@night`. Takes O(p) for p parts.
+    /// Returns how many nights there are: one from the start, and one for each `@night`. Takes O(p) for p parts.
     pub fn nights(&self) -> usize
         ensures { result ≡ nights_of self.now }
     {
         count_nights(&self.parts) + 1
     }
 
-    /// The parts of a night, which counts from 0, in the order in which they stand. Takes O(log p) for p parts.
+    /// Returns the parts of a night, which counts from 0, in the order in which they stand. Takes O(log p) for p parts.
     pub fn night(&self, night: usize) -> &[Part<'a>]
         ensures { result.now ≡ parts_of_night night self.now }
     {
         parts_of_night(&self.parts, night)
     }
 
-    /// The part with this heading. The night matters only where the heading may stand in each. Compares O(p) headings for
-    /// p parts.
+    /// Returns the part with this heading, or `None`. The night matters only where the heading may stand in each. Compares O(p) headings
+    /// for p parts.
     pub fn find(&self, heading: &Heading<'_>, night: usize) -> Option<&Part<'a>>
         ensures { option_copied result ≡ found heading.now night self.now }
     {
@@ -82,8 +82,8 @@ impl<'a> Bundle<'a> {
     }
 }
 
-/// Cuts a bundle into its parts, or finds the first fault from the top of its text. Empty bytes have no part, no fault and
-/// take no memory. Takes O(n log p) for n bytes with p parts.
+/// Cuts a bundle into its parts, or finds the first fault from the top of its text. Empty bytes have no part, no fault and take no memory.
+/// Takes O(n log p) for n bytes with p parts.
 #[tactic(auto, using(crate::proofs::CutLemmas::cut_whole))]
 pub fn parts<'a>(alloc: Global, bytes: &'a [u8], nights: Nights) -> Result<Bundle<'a>, PartFault>
     // The lines above the parts, the parts' headings and their bodies, put together, are the bytes.

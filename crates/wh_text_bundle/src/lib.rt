@@ -9,6 +9,6 @@ mod read;
 pub use bundle::fault::{Nights, PartFault};
 pub use bundle::heading::{Heading, Scope};
 pub use bundle::part::Part;
-pub use bundle::piece::Piece;
+pub use bundle::piece::InputSlice;
 pub use bundle::{Bundle, parts};
 pub use read::{ReadFault, read_all};

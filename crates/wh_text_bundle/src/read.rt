@@ -1,4 +1,4 @@
-//! All bytes of a reader, up to a limit.
+//! Reads all bytes of a reader, up to a limit.
 ghost use Rattle.std.specs.Prelude.{◌≡◌, ◌≤◌, ◌<◌, ◌++◌, length, vec_len, is_ok, if◌then◌else◌, IfOk, IfSome, IsErrOf, OnOk};
 ghost use Rattle.std.specs.Io.KnownBytes.{IsAtEnd};
 ghost use Rattle.wh_text_bundle.specs.Reading.{number_of_read_fault};
@@ -24,7 +24,7 @@ pub enum ReadFault {
 }
 
 impl ReadFault {
-    /// The fault's number among the faults of an input.
+    /// Returns the fault's number among the faults of an input.
     pub fn number(&self) -> u8
         ensures { result ≡ number_of_read_fault self.now }
     {
@@ -36,7 +36,8 @@ impl ReadFault {
     }
 }
 
-/// Adds bytes to the buffer. A large one grows by an eighth, as doubling would take twice the input's memory.
+/// Adds bytes to the buffer. Where memory fails, the buffer is as it was. A large one grows by an eighth, as doubling would take twice the
+/// input's memory.
 fn append(all: &mut Vec<u8>, bytes: &[u8]) -> Result<(), AllocError>
     ensures { all.new.items ≡ (if is_ok result then all.old.items ++ bytes.now else all.old.items) }
 {
@@ -85,9 +86,8 @@ fn read_by_chunks<R: Source>(
     unreachable!()
 }
 
-/// Reads to the end of the reader, and refuses more than `limit` bytes. It answers Read exactly where a read failed.
-///
-/// After an `Err` the reader stands anywhere. Takes O(n) for n bytes that are read.
+/// Reads to the end of the reader, and returns its bytes. Fails with Read exactly where a read failed, with TooLong where there are more
+/// than `limit` bytes, and for want of memory. After an error the reader stands anywhere. Takes O(n) for n bytes that are read.
 pub fn read_all<R: Source>(
     reader: &mut R,
     alloc: Global,

@@ -1,9 +1,9 @@
 -- What is judged of a formula: its references from left to right, and its kinds.
-use Rattle.std.proofs.Common.{◌≡◌, ℕ, zero, suc, Bool, true, false, ◌&&◌, List, [], ◌∷◌, ◌++◌, map, Option, Some, None, Result, Ok, Err, refl, sym, ap, ◌∙◌}
-use Rattle.std.specs.Prelude.{codes, if◌then◌else◌, is_ok, is_some, not, ok_or, option_map}
+use Rattle.std.proofs.Common.{◌≡◌, ℕ, zero, suc, Bool, true, false, ◌&&◌, List, [], ◌∷◌, ◌++◌, map, Option, Some, None, Result, Ok, Err, refl, sym, ap, subst, ◌∙◌}
+use Rattle.std.specs.Prelude.{codes, if◌then◌else◌, is_some, not, ok_or, option_map}
 use Rattle.std.specs.List.{list_all}
 use Rattle.std.specs.Option.{option_or}
-use Rattle.std.specs.Result.{result_err, result_ok}
+use Rattle.std.specs.Result.{result_err}
 use Rattle.std.proofs.lemmas.Bool.{and_parts}
 use Rattle.std.proofs.lemmas.List.{append-nil}
 use Rattle.toml.specs.View.{items_of}
@@ -16,7 +16,8 @@ use Rattle.wh_formula.specs.Pred.{PredTree}
 use Rattle.wh_text.specs.Columns.{NamedKind}
 use Rattle.wh_text.specs.FirstFault.{fault_if}
 use Rattle.wh_text.specs.NameForm.{is_name}
-use Rattle.wh_text.specs.declared.columns.Kind.TheVariants.{Int}
+use Rattle.wh_text.specs.declared.columns.Kind.{Kind}
+use Rattle.wh_text.specs.declared.columns.Kind.TheVariants.{Int, Text}
 use Rattle.wh_text.specs.declared.fault.LoadFault.{LoadFault}
 use Rattle.wh_text.specs.declared.fault.LoadFault.TheVariants as fault
 use Rattle.wh_text.proofs.FirstFaults.{first_of}
@@ -32,7 +33,7 @@ use Rattle.wh_text_catalogue.specs.Pairs.{takes_kind, typed_cell}
 use Rattle.wh_text_catalogue.specs.PredForm.{WrittenPred, is_pred, pred_form, pred_parts_pass}
 use Rattle.wh_text_catalogue.specs.PredForm as form
 use Rattle.wh_text_catalogue.specs.Reference.{is_reference}
-use Rattle.wh_text_catalogue.specs.ViewFaults.{kind_of, kinds_fit, reference_judged, references, references_in, references_judged, takes}
+use Rattle.wh_text_catalogue.specs.ViewFaults.{all_fit, is_number, kind_of, kinds_fit, may_compare, reference_judged, references, references_in, references_judged, takes}
 use Rattle.wh_text_catalogue.specs.WrittenFormula.{under, word_of}
 use Rattle.wh_text_catalogue.specs.declared.definitions.expr_form.Sign.{Sign}
 use Rattle.wh_text_catalogue.specs.declared.definitions.expr_form.Sign.TheVariants.{Plus, Minus, Times}
@@ -171,150 +172,192 @@ pub test-judged : (columns : List NamedKind) (value : Data) → is_whole_pred va
 unfolding is_whole_pred unknown_in_test
 test-judged columns value e = pred-judged columns 64 value e
 
--- Kinds: the numbers of texts make no difference.
+-- Kinds.
 
--- both have the kinds' fault, or are of one kind
-abbrev AgreeByKind : HeaderOf → ExprOutcome → ExprOutcome → Type 0
-AgreeByKind header (Ok first) (Ok second) = first.0.kind ≡ second.0.kind
-AgreeByKind header (Err f) (Err g) = (f ≡ unfit header) × (g ≡ unfit header)
-AgreeByKind header _ _ = ⊥
+-- an expression was read, of this kind; or it has the fault of kinds, where there is none
+abbrev IsOfKind : HeaderOf → Option Kind → ExprOutcome → Type 0
+IsOfKind header (Some kind) (Ok read) = read.0.kind ≡ kind
+IsOfKind header None (Err f) = f ≡ unfit header
+IsOfKind header _ _ = ⊥
 
--- both have the kinds' fault, or neither
-abbrev Agree : {A : Type 0} → HeaderOf → Result A LoadFault → Result A LoadFault → Type 0
-Agree header (Ok first) (Ok second) = Unit {0}
-Agree header (Err f) (Err g) = (f ≡ unfit header) × (g ≡ unfit header)
-Agree header _ _ = ⊥
+-- something was read where kinds fit; or it has the fault of kinds
+abbrev Fits : {A : Type 0} → HeaderOf → Bool → Result A LoadFault → Type 0
+Fits header true (Ok read) = Unit {0}
+Fits header false (Err f) = f ≡ unfit header
+Fits header _ _ = ⊥
 
 abbrev combine_second : HeaderOf → Sign → TypedExpr → TypedExpr × Texts → ExprOutcome
 combine_second header sign first second = combined header sign first second.0 >>= (λ expr. Ok (record { kind = Int; expr = expr }, second.1))
 
-second-agree : (header : HeaderOf) (sign : Sign) (x y : TypedExpr) → x.kind ≡ y.kind → (c d : ExprOutcome) → AgreeByKind header c d → AgreeByKind header (c >>= combine_second header sign x) (d >>= combine_second header sign y)
-second-agree header sign x y same (Err f) (Err g) h = h
-second-agree header sign x y same (Err f) (Ok w) h = absurd h
-second-agree header sign x y same (Ok z) (Err g) h = absurd h
-second-agree header sign x y same (Ok z) (Ok w) h = by (is_int x.kind && is_int z.0.kind) (is_int y.kind && is_int w.0.kind) (ap (λ k. is_int k && is_int z.0.kind) same ∙ ap (λ k. is_int y.kind && is_int k) h)
+and_true : (b : Bool) → b && true ≡ b
+and_true true = refl
+and_true false = refl
+
+second-kind : (header : HeaderOf) (sign : Sign) (x : TypedExpr) (kind : Kind) → x.kind ≡ kind → (other : Option Kind) (c : ExprOutcome) → IsOfKind header other c
+    → IsOfKind header (if is_int kind && (is_number other && true) then Some Int else None) (c >>= combine_second header sign x)
+second-kind header sign x Int same None (Err f) h = h
+second-kind header sign x Text same None (Err f) h = h
+second-kind header sign x kind same None (Ok z) h = absurd h
+second-kind header sign x kind same (Some other) (Err f) h = absurd h
+second-kind header sign x kind same (Some other) (Ok z) h =
+    by (is_int x.kind && is_int z.0.kind) (is_int kind && (is_int other && true))
+    (ap (λ k. is_int k && is_int z.0.kind) same ∙ ap (λ k. is_int kind && is_int k) h ∙ ap (λ b. is_int kind && b) (sym (and_true (is_int other))))
   where
     by : (b c : Bool) → b ≡ c
-        → AgreeByKind header ((if b then Ok (operation sign x.expr z.0.expr) else Err (unfit header)) >>= (λ expr. Ok (record { kind = Int; expr = expr }, z.1)))
-        ((if c then Ok (operation sign y.expr w.0.expr) else Err (unfit header)) >>= (λ expr. Ok (record { kind = Int; expr = expr }, w.1)))
+        → IsOfKind header (if c then Some Int else None) ((if b then Ok (operation sign x.expr z.0.expr) else Err (unfit header)) >>= (λ expr. Ok (record { kind = Int; expr = expr }, z.1)))
     by true true e = refl
     by true false e = cc
     by false true e = cc
-    by false false e = (refl, refl)
+    by false false e = refl
 
-operation-agree : (header : HeaderOf) (sign : Sign) (a b : ExprOutcome) (right : Texts → ExprOutcome) → AgreeByKind header a b → ((t u : Texts) → AgreeByKind header (right t) (right u))
-    → AgreeByKind header (a >>= (λ (first : TypedExpr × Texts). right first.1 >>= combine_second header sign first.0)) (b >>= (λ (first : TypedExpr × Texts). right first.1 >>= combine_second header sign first.0))
-operation-agree header sign (Err f) (Err g) right h more = h
-operation-agree header sign (Err f) (Ok y) right h more = absurd h
-operation-agree header sign (Ok x) (Err g) right h more = absurd h
-operation-agree header sign (Ok x) (Ok y) right h more = second-agree header sign x.0 y.0 h (right x.1) (right y.1) (more x.1 y.1)
+operation-kind : (header : HeaderOf) (sign : Sign) (kind other : Option Kind) (a : ExprOutcome) (right : Texts → ExprOutcome) → IsOfKind header kind a → ((t : Texts) → IsOfKind header other (right t))
+    → IsOfKind header (if is_number kind && (is_number other && true) then Some Int else None) (a >>= (λ (first : TypedExpr × Texts). right first.1 >>= combine_second header sign first.0))
+operation-kind header sign None other (Err f) right h more = h
+operation-kind header sign None other (Ok x) right h more = absurd h
+operation-kind header sign (Some kind) other (Err f) right h more = absurd h
+operation-kind header sign (Some kind) other (Ok x) right h more = second-kind header sign x.0 kind h other (right x.1) (more x.1)
 
-expr-agree : (header : HeaderOf) (levels : ℕ) (value : Data) (texts others : Texts) → AgreeByKind header (typed_expr header levels value texts) (typed_expr header levels value others)
-expr-agree header zero value texts others = (refl, refl)
-expr-agree header (suc levels) value texts others = by (expr_form value) (λ part t u. expr-agree header levels part t u)
+expr-kind : (header : HeaderOf) (levels : ℕ) (value : Data) (texts : Texts) → is_expr levels value ≡ true → IsOfKind header (kind_of header.columns value) (typed_expr header levels value texts)
+expr-kind header zero value texts e = cc
+expr-kind header (suc levels) value texts e = by (expr_form value) (λ form is. expr-form value form is) e (λ part t is. expr-kind header levels part t is)
   where
-    column : (o : Option Cell) → AgreeByKind header (keeping texts (ok_or o (unfit header) >>= (λ cell. Ok (record { kind = cell.kind; expr = tree.Column cell.place }))))
-        (keeping others (ok_or o (unfit header) >>= (λ cell. Ok (record { kind = cell.kind; expr = tree.Column cell.place }))))
-    column None = (refl, refl)
+    column : (o : Option Cell) → IsOfKind header (option_map (λ (cell : Cell). cell.kind) o) (keeping texts (ok_or o (unfit header) >>= (λ cell. Ok (record { kind = cell.kind; expr = tree.Column cell.place }))))
+    column None = refl
     column (Some cell) = refl
 
-    by : (o : Option WrittenExpr) → ((part : Data) (t u : Texts) → AgreeByKind header (typed_expr header levels part t) (typed_expr header levels part u))
-        → AgreeByKind header (typed_form header (typed_expr header levels) o texts) (typed_form header (typed_expr header levels) o others)
-    by None more = (refl, refl)
-    by (Some (level.Number n)) more = refl
-    by (Some (level.Literal text)) more = refl
-    by (Some (level.Reference text)) more = column (cell_of header.columns text)
-    by (Some (level.Operation sign left right)) more =
-        operation-agree header sign (typed_expr header levels left texts) (typed_expr header levels left others) (typed_expr header levels right) (more left texts others) (more right)
+    told : (d : Data) → value ≡ d → (r : ExprOutcome) → IsOfKind header (kind_of header.columns d) r → IsOfKind header (kind_of header.columns value) r
+    told d same r h = subst (λ d. IsOfKind header (kind_of header.columns d) r) (sym same) h
+
+    by : (o : Option WrittenExpr) → ((form : WrittenExpr) → o ≡ Some form → IsOfForm form value) → parts_pass (is_expr levels) o ≡ true
+        → ((part : Data) (t : Texts) → is_expr levels part ≡ true → IsOfKind header (kind_of header.columns part) (typed_expr header levels part t))
+        → IsOfKind header (kind_of header.columns value) (typed_form header (typed_expr header levels) o texts)
+    by None forms e more = cc
+    by (Some (level.Number n)) forms e more = told _ (forms (level.Number n) refl) (typed_form header (typed_expr header levels) (Some (level.Number n)) texts) refl
+    by (Some (level.Literal text)) forms e more = told _ (forms (level.Literal text) refl) (typed_form header (typed_expr header levels) (Some (level.Literal text)) texts) refl
+    by (Some (level.Reference text)) forms e more = told _ (forms (level.Reference text) refl) (typed_form header (typed_expr header levels) (Some (level.Reference text)) texts) (column (cell_of header.columns text))
+    by (Some (level.Operation sign left right)) forms e more =
+        let parts = and_parts (is_expr levels left) (is_expr levels right) e in
+        told _ (forms (level.Operation sign left right) refl) (typed_form header (typed_expr header levels) (Some (level.Operation sign left right)) texts)
+        (operation-kind header sign (kind_of header.columns left) (kind_of header.columns right) (typed_expr header levels left texts) (typed_expr header levels right) (more left texts parts.0) (λ t. more right t parts.1))
 
 abbrev compare_second : HeaderOf → Comparison → TypedExpr → TypedExpr × Texts → PredOutcome
 compare_second header comparison first second = compared header comparison first second.0 >>= (λ pred. Ok (pred, second.1))
 
-compare-agree : (header : HeaderOf) (comparison : Comparison) (x y : TypedExpr) → x.kind ≡ y.kind → (c d : ExprOutcome) → AgreeByKind header c d
-    → Agree header (c >>= compare_second header comparison x) (d >>= compare_second header comparison y)
-compare-agree header comparison x y same (Err f) (Err g) h = h
-compare-agree header comparison x y same (Err f) (Ok w) h = absurd h
-compare-agree header comparison x y same (Ok z) (Err g) h = absurd h
-compare-agree header comparison x y same (Ok z) (Ok w) h =
-    by (fits_kinds comparison x.kind z.0.kind) (fits_kinds comparison y.kind w.0.kind) (ap (λ k. fits_kinds comparison k z.0.kind) same ∙ ap (λ k. fits_kinds comparison y.kind k) h)
+compare-fits : (header : HeaderOf) (comparison : Comparison) (x : TypedExpr) (kind : Kind) → x.kind ≡ kind → (other : Option Kind) (c : ExprOutcome) → IsOfKind header other c
+    → Fits header (may_compare comparison (Some kind) other) (c >>= compare_second header comparison x)
+compare-fits header comparison x kind same None (Err f) h = h
+compare-fits header comparison x kind same None (Ok z) h = absurd h
+compare-fits header comparison x kind same (Some other) (Err f) h = absurd h
+compare-fits header comparison x kind same (Some other) (Ok z) h =
+    by (fits_kinds comparison x.kind z.0.kind) (fits_kinds comparison kind other) (ap (λ k. fits_kinds comparison k z.0.kind) same ∙ ap (λ k. fits_kinds comparison kind k) h)
   where
-    by : (b c : Bool) → b ≡ c
-        → Agree {A = PredTree × Texts} header ((if b then Ok (test.Cmp comparison x.expr z.0.expr) else Err (unfit header)) >>= (λ pred. Ok (pred, z.1)))
-        ((if c then Ok (test.Cmp comparison y.expr w.0.expr) else Err (unfit header)) >>= (λ pred. Ok (pred, w.1)))
+    by : (b c : Bool) → b ≡ c → Fits {A = PredTree × Texts} header c ((if b then Ok (test.Cmp comparison x.expr z.0.expr) else Err (unfit header)) >>= (λ pred. Ok (pred, z.1)))
     by true true e = tt
     by true false e = cc
     by false true e = cc
-    by false false e = (refl, refl)
+    by false false e = refl
 
-comparison-agree : (header : HeaderOf) (comparison : Comparison) (a b : ExprOutcome) (right : Texts → ExprOutcome) → AgreeByKind header a b → ((t u : Texts) → AgreeByKind header (right t) (right u))
-    → Agree header (a >>= (λ (first : TypedExpr × Texts). right first.1 >>= compare_second header comparison first.0)) (b >>= (λ (first : TypedExpr × Texts). right first.1 >>= compare_second header comparison first.0))
-comparison-agree header comparison (Err f) (Err g) right h more = h
-comparison-agree header comparison (Err f) (Ok y) right h more = absurd h
-comparison-agree header comparison (Ok x) (Err g) right h more = absurd h
-comparison-agree header comparison (Ok x) (Ok y) right h more = compare-agree header comparison x.0 y.0 h (right x.1) (right y.1) (more x.1 y.1)
+comparison-fits : (header : HeaderOf) (comparison : Comparison) (kind other : Option Kind) (a : ExprOutcome) (right : Texts → ExprOutcome) → IsOfKind header kind a → ((t : Texts) → IsOfKind header other (right t))
+    → Fits header (may_compare comparison kind other) (a >>= (λ (first : TypedExpr × Texts). right first.1 >>= compare_second header comparison first.0))
+comparison-fits header comparison None other (Err f) right h more = h
+comparison-fits header comparison None other (Ok x) right h more = absurd h
+comparison-fits header comparison (Some kind) other (Err f) right h more = absurd h
+comparison-fits header comparison (Some kind) other (Ok x) right h more = compare-fits header comparison x.0 kind h other (right x.1) (more x.1)
 
-agree-then : {A B : Type 0} (header : HeaderOf) (r s : Result A LoadFault) (f g : A → B) → Agree header r s → Agree {A = B} header (r >>= (λ a. Ok (f a))) (s >>= (λ a. Ok (g a)))
-agree-then header (Err e) (Err d) f g h = h
-agree-then header (Err e) (Ok b) f g h = absurd h
-agree-then header (Ok a) (Err d) f g h = absurd h
-agree-then header (Ok a) (Ok b) f g h = tt
+fits-then : {A B : Type 0} (header : HeaderOf) (b : Bool) (r : Result A LoadFault) (f : A → B) → Fits header b r → Fits {A = B} header b (r >>= (λ a. Ok (f a)))
+fits-then header true (Ok a) f h = tt
+fits-then header true (Err e) f h = absurd h
+fits-then header false (Ok a) f h = absurd h
+fits-then header false (Err e) f h = h
 
-first-agree : (header : HeaderOf) (typed : Data → Texts → PredOutcome) (rest : List Data) (found others : List PredTree) (a b : PredOutcome) → Agree header a b
-    → ((f g : List PredTree) (t u : Texts) → Agree header (typed_parts typed f rest t) (typed_parts typed g rest u))
-    → Agree header (a >>= (λ (part : PredTree × Texts). typed_parts typed (found ++ part.0 ∷ []) rest part.1)) (b >>= (λ (part : PredTree × Texts). typed_parts typed (others ++ part.0 ∷ []) rest part.1))
-first-agree header typed rest found others (Err f) (Err g) h more = h
-first-agree header typed rest found others (Err f) (Ok y) h more = absurd h
-first-agree header typed rest found others (Ok x) (Err g) h more = absurd h
-first-agree header typed rest found others (Ok x) (Ok y) h more = more (found ++ x.0 ∷ []) (others ++ y.0 ∷ []) x.1 y.1
+first-fits : (header : HeaderOf) (typed : Data → Texts → PredOutcome) (rest : List Data) (found : List PredTree) (first more : Bool) (a : PredOutcome) → Fits header first a
+    → ((f : List PredTree) (t : Texts) → Fits header more (typed_parts typed f rest t))
+    → Fits header (first && more) (a >>= (λ (part : PredTree × Texts). typed_parts typed (found ++ part.0 ∷ []) rest part.1))
+first-fits header typed rest found true more (Ok x) h later = later (found ++ x.0 ∷ []) x.1
+first-fits header typed rest found true more (Err f) h later = absurd h
+first-fits header typed rest found false more (Ok x) h later = absurd h
+first-fits header typed rest found false more (Err f) h later = h
 
-parts-agree : (header : HeaderOf) (typed : Data → Texts → PredOutcome) (parts : List Data) → ((part : Data) (t u : Texts) → Agree header (typed part t) (typed part u))
-    → (found others : List PredTree) (t u : Texts) → Agree header (typed_parts typed found parts t) (typed_parts typed others parts u)
-parts-agree header typed [] each found others t u = tt
-parts-agree header typed (part ∷ rest) each found others t u = first-agree header typed rest found others (typed part t) (typed part u) (each part t u) (parts-agree header typed rest each)
+parts-fit : (header : HeaderOf) (levels : ℕ) (parts : List Data) → ((part : Data) (t : Texts) → is_pred levels part ≡ true → Fits header (kinds_fit header.columns part) (typed_pred header levels part t))
+    → list_all (is_pred levels) parts ≡ true → (found : List PredTree) (t : Texts) → Fits header (all_fit header.columns (items_of parts)) (typed_parts (typed_pred header levels) found parts t)
+parts-fit header levels [] each e found t = tt
+parts-fit header levels (part ∷ rest) each e found t =
+    let both = and_parts (is_pred levels part) (list_all (is_pred levels) rest) e in
+    first-fits header (typed_pred header levels) rest found (kinds_fit header.columns part) (all_fit header.columns (items_of rest)) (typed_pred header levels part t) (each part t both.0) (parts-fit header levels rest each both.1)
 
-pred-agree : (header : HeaderOf) (levels : ℕ) (value : Data) (texts others : Texts) → Agree header (typed_pred header levels value texts) (typed_pred header levels value others)
-pred-agree header zero value texts others = (refl, refl)
-pred-agree header (suc levels) value texts others = by (pred_form value) (λ part t u. pred-agree header levels part t u)
+-- what stands under each word
+comparison-under : (columns : List NamedKind) (comparison : Comparison) (left right : Data)
+    → kinds_fit columns (under (word_of comparison) (left ∷ right ∷ [])) ≡ may_compare comparison (kind_of columns left) (kind_of columns right)
+comparison-under columns Equal left right = refl
+comparison-under columns NotEqual left right = refl
+comparison-under columns Less left right = refl
+comparison-under columns LessOrEqual left right = refl
+comparison-under columns Greater left right = refl
+comparison-under columns GreaterOrEqual left right = refl
+
+all-under : (columns : List NamedKind) (parts : List Data) → kinds_fit columns (under (codes "all") parts) ≡ all_fit columns (items_of parts)
+all-under columns parts = refl
+
+any-under : (columns : List NamedKind) (parts : List Data) → kinds_fit columns (under (codes "any") parts) ≡ all_fit columns (items_of parts)
+any-under columns parts = refl
+
+not-under : (columns : List NamedKind) (part : Data) → kinds_fit columns (under (codes "not") (part ∷ [])) ≡ kinds_fit columns part
+not-under columns part = and_true (kinds_fit columns part)
+
+pred-fits : (header : HeaderOf) (levels : ℕ) (value : Data) (texts : Texts) → is_pred levels value ≡ true → Fits header (kinds_fit header.columns value) (typed_pred header levels value texts)
+pred-fits header zero value texts e = cc
+pred-fits header (suc levels) value texts e = by (pred_form value) (λ form is. pred-form value form is) e (λ part t is. pred-fits header levels part t is)
   where
-    by : (o : Option WrittenPred) → ((part : Data) (t u : Texts) → Agree header (typed_pred header levels part t) (typed_pred header levels part u))
-        → Agree header (typed_test header (typed_expr header levels) (typed_pred header levels) o texts) (typed_test header (typed_expr header levels) (typed_pred header levels) o others)
-    by None more = (refl, refl)
-    by (Some form.Always) more = tt
-    by (Some (form.Compare comparison left right)) more =
-        comparison-agree header comparison (typed_expr header levels left texts) (typed_expr header levels left others) (typed_expr header levels right) (expr-agree header levels left texts others)
-        (λ t u. expr-agree header levels right t u)
-    by (Some (form.All parts)) more =
-        agree-then header (typed_parts (typed_pred header levels) [] parts texts) (typed_parts (typed_pred header levels) [] parts others) (λ (own : List PredTree × Texts). (test.AllOf (test.parts_of own.0), own.1))
-        (λ (own : List PredTree × Texts). (test.AllOf (test.parts_of own.0), own.1)) (parts-agree header (typed_pred header levels) parts more [] [] texts others)
-    by (Some (form.Any parts)) more =
-        agree-then header (typed_parts (typed_pred header levels) [] parts texts) (typed_parts (typed_pred header levels) [] parts others) (λ (own : List PredTree × Texts). (test.AnyOf (test.parts_of own.0), own.1))
-        (λ (own : List PredTree × Texts). (test.AnyOf (test.parts_of own.0), own.1)) (parts-agree header (typed_pred header levels) parts more [] [] texts others)
-    by (Some (form.Not part)) more =
-        agree-then header (typed_pred header levels part texts) (typed_pred header levels part others) (λ (own : PredTree × Texts). (test.Not own.0, own.1)) (λ (own : PredTree × Texts). (test.Not own.0, own.1)) (more part texts others)
+    told : (d : Data) → value ≡ d → (b : Bool) → kinds_fit header.columns d ≡ b → (r : PredOutcome) → Fits header b r → Fits header (kinds_fit header.columns value) r
+    told d same b is r h = subst (λ b. Fits header b r) (sym (ap (kinds_fit header.columns) same ∙ is)) h
+
+    by : (o : Option WrittenPred) → ((form : WrittenPred) → o ≡ Some form → IsOfTest form value) → pred_parts_pass (is_expr levels) (is_pred levels) o ≡ true
+        → ((part : Data) (t : Texts) → is_pred levels part ≡ true → Fits header (kinds_fit header.columns part) (typed_pred header levels part t))
+        → Fits header (kinds_fit header.columns value) (typed_test header (typed_expr header levels) (typed_pred header levels) o texts)
+    by None forms e more = cc
+    by (Some form.Always) forms e more = told _ (forms form.Always refl) true refl (Ok (test.True, texts)) tt
+    by (Some (form.Compare comparison left right)) forms e more =
+        let parts = and_parts (is_expr levels left) (is_expr levels right) e in
+        told _ (forms (form.Compare comparison left right) refl) _ (comparison-under header.columns comparison left right) (typed_test header (typed_expr header levels) (typed_pred header levels) (Some (form.Compare comparison left right)) texts)
+        (comparison-fits header comparison (kind_of header.columns left) (kind_of header.columns right) (typed_expr header levels left texts) (typed_expr header levels right) (expr-kind header levels left texts parts.0)
+        (λ t. expr-kind header levels right t parts.1))
+    by (Some (form.All parts)) forms e more =
+        told _ (forms (form.All parts) refl) _ (all-under header.columns parts) (typed_test header (typed_expr header levels) (typed_pred header levels) (Some (form.All parts)) texts)
+        (fits-then header (all_fit header.columns (items_of parts)) (typed_parts (typed_pred header levels) [] parts texts) (λ (own : List PredTree × Texts). (test.AllOf (test.parts_of own.0), own.1))
+        (parts-fit header levels parts more e [] texts))
+    by (Some (form.Any parts)) forms e more =
+        told _ (forms (form.Any parts) refl) _ (any-under header.columns parts) (typed_test header (typed_expr header levels) (typed_pred header levels) (Some (form.Any parts)) texts)
+        (fits-then header (all_fit header.columns (items_of parts)) (typed_parts (typed_pred header levels) [] parts texts) (λ (own : List PredTree × Texts). (test.AnyOf (test.parts_of own.0), own.1))
+        (parts-fit header levels parts more e [] texts))
+    by (Some (form.Not part)) forms e more =
+        told _ (forms (form.Not part) refl) _ (not-under header.columns part) (typed_test header (typed_expr header levels) (typed_pred header levels) (Some (form.Not part)) texts)
+        (fits-then header (kinds_fit header.columns part) (typed_pred header levels part texts) (λ (own : PredTree × Texts). (test.Not own.0, own.1)) (more part texts e))
 
 -- a key takes the expression of a cell by its kind
-pub kind-judged : (header : HeaderOf) (rule : KindRule) (value : Data) (texts : Texts) → result_err (typed_cell header rule value texts) ≡ fault_if (not (takes rule (kind_of header value))) (unfit header)
-unfolding whole_expr
-kind-judged header rule value texts = by (typed_expr header 64 value texts) (typed_expr header 64 value []) (expr-agree header 64 value texts [])
+pub kind-judged : (header : HeaderOf) (rule : KindRule) (value : Data) (texts : Texts) → is_whole_expr value ≡ true
+    → result_err (typed_cell header rule value texts) ≡ fault_if (not (takes rule (kind_of header.columns value))) (unfit header)
+unfolding whole_expr is_whole_expr
+kind-judged header rule value texts e = by (kind_of header.columns value) (typed_expr header 64 value texts) (expr-kind header 64 value texts e)
   where
     tested : (own : TypedExpr × Texts) (passes : Bool) → result_err (checked passes (unfit header) own) ≡ fault_if (not passes) (unfit header)
     tested own true = refl
     tested own false = refl
 
-    by : (r s : ExprOutcome) → AgreeByKind header r s
-        → result_err (r >>= (λ (typed : TypedExpr × Texts). checked (takes_kind rule typed.0.kind) (unfit header) typed)) ≡ fault_if (not (takes rule (option_map (λ (read : TypedExpr × Texts). read.0.kind) (result_ok s)))) (unfit header)
-    by (Err f) (Err g) h = ap Some h.0
-    by (Err f) (Ok b) h = absurd h
-    by (Ok a) (Err g) h = absurd h
-    by (Ok a) (Ok b) h = ap (λ k. result_err (checked (takes_kind rule k) (unfit header) a)) h ∙ tested a (takes_kind rule b.0.kind)
+    by : (kind : Option Kind) (r : ExprOutcome) → IsOfKind header kind r
+        → result_err (r >>= (λ (typed : TypedExpr × Texts). checked (takes_kind rule typed.0.kind) (unfit header) typed)) ≡ fault_if (not (takes rule kind)) (unfit header)
+    by None (Err f) h = ap Some h
+    by None (Ok a) h = absurd h
+    by (Some kind) (Err f) h = absurd h
+    by (Some kind) (Ok a) h = ap (λ k. result_err (checked (takes_kind rule k) (unfit header) a)) h ∙ tested a (takes_kind rule kind)
 
 -- the kinds of a predicate fit or have their fault
-pub kinds-judged : (header : HeaderOf) (value : Data) (texts : Texts) → result_err (whole_pred header value texts) ≡ fault_if (not (kinds_fit header value)) (unfit header)
-unfolding whole_pred
-kinds-judged header value texts = by (typed_pred header 64 value texts) (typed_pred header 64 value []) (pred-agree header 64 value texts [])
+pub kinds-judged : (header : HeaderOf) (value : Data) (texts : Texts) → is_whole_pred value ≡ true
+    → result_err (whole_pred header value texts) ≡ fault_if (not (kinds_fit header.columns value)) (unfit header)
+unfolding whole_pred is_whole_pred
+kinds-judged header value texts e = by (kinds_fit header.columns value) (typed_pred header 64 value texts) (pred-fits header 64 value texts e)
   where
-    by : (r s : PredOutcome) → Agree header r s → result_err r ≡ fault_if (not (is_ok s)) (unfit header)
-    by (Err f) (Err g) h = ap Some h.0
-    by (Err f) (Ok b) h = absurd h
-    by (Ok a) (Err g) h = absurd h
-    by (Ok a) (Ok b) h = refl
+    by : (b : Bool) (r : PredOutcome) → Fits header b r → result_err r ≡ fault_if (not b) (unfit header)
+    by true (Ok a) h = refl
+    by true (Err f) h = absurd h
+    by false (Ok a) h = absurd h
+    by false (Err f) h = ap Some h

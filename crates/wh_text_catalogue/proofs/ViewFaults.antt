@@ -190,16 +190,16 @@ where-judged header None texts = refl
 where-judged header (Some value) texts = by (is_whole_pred value) refl
   where
     known : (is_whole_pred value ≡ true)
-        → result_err (unless_unknown (unknown_in_test header.columns value) value >>= (λ own. whole_pred header own texts)) ≡ first_of (references_judged header.columns value ++ fault_if (not (kinds_fit header value)) (unfit header) ∷ [])
+        → result_err (unless_unknown (unknown_in_test header.columns value) value >>= (λ own. whole_pred header own texts)) ≡ first_of (references_judged header.columns value ++ fault_if (not (kinds_fit header.columns value)) (unfit header) ∷ [])
     known is =
-        then-judged (unless_unknown (unknown_in_test header.columns value) value) (λ own. whole_pred header own texts) (references_judged header.columns value) (fault_if (not (kinds_fit header value)) (unfit header) ∷ [])
+        then-judged (unless_unknown (unknown_in_test header.columns value) value) (λ own. whole_pred header own texts) (references_judged header.columns value) (fault_if (not (kinds_fit header.columns value)) (unfit header) ∷ [])
         (unless-judged (unknown_in_test header.columns value) value ∙ test-judged header.columns value is)
-        (λ own same. ap (λ d. result_err (whole_pred header d texts)) (sym (unless-same (unknown_in_test header.columns value) value own same)) ∙ kinds-judged header value texts
-        ∙ sym (option_or-None (fault_if (not (kinds_fit header value)) (unfit header))))
+        (λ own same. ap (λ d. result_err (whole_pred header d texts)) (sym (unless-same (unknown_in_test header.columns value) value own same)) ∙ kinds-judged header value texts is
+        ∙ sym (option_or-None (fault_if (not (kinds_fit header.columns value)) (unfit header))))
 
     by : (b : Bool) → is_whole_pred value ≡ b
         → result_err (checked b (fault.Key key.Where) value >>= (λ own. unless_unknown (unknown_in_test header.columns own) own >>= (λ own. whole_pred header own texts)))
-        ≡ first_of (fault_if (not b) (fault.Key key.Where) ∷ (references_judged header.columns value ++ fault_if (not (kinds_fit header value)) (unfit header) ∷ []))
+        ≡ first_of (fault_if (not b) (fault.Key key.Where) ∷ (references_judged header.columns value ++ fault_if (not (kinds_fit header.columns value)) (unfit header) ∷ []))
     by true is = known is
     by false is = refl
 
@@ -237,12 +237,13 @@ pairs-known columns above names (pair ∷ rest) e =
     let here = sym (unless-same (unknown_column columns pair.value) fresh.0 known.0 known.1) ∙ fresh-is above pair.name fresh.0 fresh.1 in
     pairs-known columns known.0 names rest known.2 ∙ ap (λ ns. ns ++ names_in_pairs rest) here ∙ append_assoc above (pair.name ∷ []) (names_in_pairs rest)
 
-typed-judged : (header : HeaderOf) (rule : KindRule) (found : TypedColumns) (pairs : List WrittenPair) (texts : Texts) → result_err (typed_pairs header rule found pairs texts) ≡ first_of (kinds_judged header rule pairs)
-typed-judged header rule found [] texts = refl
-typed-judged header rule found (pair ∷ rest) texts =
+typed-judged : (header : HeaderOf) (rule : KindRule) (found : TypedColumns) (pairs : List WrittenPair) (texts : Texts) → are_exprs pairs ≡ true → result_err (typed_pairs header rule found pairs texts) ≡ first_of (kinds_judged header rule pairs)
+typed-judged header rule found [] texts e = refl
+typed-judged header rule found (pair ∷ rest) texts e =
+    let parts = and_parts (is_whole_expr pair.value) (are_exprs rest) e in
     one-judged (typed_cell header rule pair.value texts) (λ (typed : TypedExpr × Texts). typed_pairs header rule (with_expr found pair.name typed.0) rest typed.1)
-    (fault_if (not (takes rule (kind_of header pair.value))) (unfit header)) (kinds_judged header rule rest) (kind-judged header rule pair.value texts)
-    (λ typed e. typed-judged header rule (with_expr found pair.name typed.0) rest typed.1)
+    (fault_if (not (takes rule (kind_of header.columns pair.value))) (unfit header)) (kinds_judged header rule rest) (kind-judged header rule pair.value texts parts.0)
+    (λ typed is. typed-judged header rule (with_expr found pair.name typed.0) rest typed.1 parts.1)
 
 typed-length : (header : HeaderOf) (rule : KindRule) (found : TypedColumns) (pairs : List WrittenPair) (texts : Texts) (read : TypedColumns × Texts) → typed_pairs header rule found pairs texts ≡ Ok read
     → length read.0.columns ≡ length found.columns + length pairs
@@ -292,7 +293,7 @@ keep-judged header value texts =
     (λ pairs e. then-judged (known_pairs header.columns [] pairs) (λ names. last pairs) (pairs_judged header.columns [] pairs) (kinds_judged header AnyKind pairs)
     (pairs-judge header.columns [] pairs (exprs-referring header.columns pairs (and_parts (is_few (length pairs)) (are_exprs pairs) (passed keeps (pairs_form value) pairs e).1).1))
     (λ names same. last-judged (typed_pairs header AnyKind (typed_columns [] []) pairs texts) (λ (typed : TypedColumns × Texts). (record { columns = typed.0.columns; output = Keep typed.0.exprs }, typed.1))
-    (kinds_judged header AnyKind pairs) (typed-judged header AnyKind (typed_columns [] []) pairs texts)))
+    (kinds_judged header AnyKind pairs) (typed-judged header AnyKind (typed_columns [] []) pairs texts (and_parts (is_few (length pairs)) (are_exprs pairs) (passed keeps (pairs_form value) pairs e).1).1)))
 
 -- `group`.
 
@@ -369,7 +370,7 @@ sum-judged header above columns entry texts =
     ∙ formed-judged (sum_form (get (codes "sum") entry)) (fault.Key key.Sum) next (λ pairs. pairs_judged header.columns above pairs ++ kinds_judged header Numbers pairs)
     (λ pairs e. then-judged (known_pairs header.columns above pairs) (λ names. last pairs) (pairs_judged header.columns above pairs) (kinds_judged header Numbers pairs)
     (pairs-judge header.columns above pairs (exprs-referring header.columns pairs (sum-exprs (get (codes "sum") entry) pairs e)))
-    (λ names same. typed-judged header Numbers (typed_columns columns []) pairs texts))
+    (λ names same. typed-judged header Numbers (typed_columns columns []) pairs texts (sum-exprs (get (codes "sum") entry) pairs e)))
 
 sum-length : (header : HeaderOf) (above : Seen) (columns : List NamedKind) (entry : Data) (texts : Texts) (sums : TypedColumns × Texts) → sum_columns header above columns entry texts ≡ Ok sums
     → length sums.0.columns ≡ length columns + length (unwrap_or (sum_form (get (codes "sum") entry)) [])

@@ -37,7 +37,7 @@ abbrev pub columns_in : List NamedKind → List Data → Option (List NamedKind)
 columns_in found [] = Some found
 columns_in found (value ∷ rest) = option_and_then (λ column. columns_in (found ++ column ∷ []) rest) (option_and_then column_in (as_str value))
 
--- 1 to 64
+-- the count is 1 to 64
 abbrev pub is_few : ℕ → Bool
 is_few count = nat_le 1 count && nat_le count 64
 

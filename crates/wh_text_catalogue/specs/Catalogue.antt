@@ -28,7 +28,7 @@ array_of value = option_map elements (as_array value)
 abbrev pub is_table : Data → Bool
 is_table value = is_some (as_table value)
 
--- the same values, none where one is no table
+-- the values, none where one of them is no table
 abbrev pub tables_of : List Data → Option (List Data)
 tables_of values = if list_all is_table values then Some values else None
 
@@ -36,7 +36,7 @@ tables_of values = if list_all is_table values then Some values else None
 abbrev pub views_of : Members → Option (List Data)
 views_of document = option_and_then tables_of (option_and_then array_of (get_member (codes "view") document))
 
--- the same text, none where it has not the form of a name
+-- the text, none where it has not the form of a name
 abbrev pub name_in : List ℕ → Option (List ℕ)
 name_in text = if is_name text then Some text else None
 
@@ -88,7 +88,8 @@ shape_written written = judged written (first_fault written.names written.over)
 abbrev pub document_of : List ℕ → Result Members LoadFault
 document_of text = if is_utf8 text then ok_or (parse_document text) fault.Toml else Err fault.Toml
 
--- the shape of a catalogue's text, or the first fault: the document, its array of views, their names and what each is over, the shape
+-- the shape of a catalogue's text, or the first fault: of the document, its array of views, their names and what each is over, and then of
+-- the shape
 abbrev pub shape_of : List ℕ → Result Views LoadFault
 shape_of text = do
   document ← document_of text

@@ -1,4 +1,5 @@
--- What is wrong with a catalogue, each fault by itself and at its place: the document, its views, their names and what each is over, and the shape that they make.
+-- What is wrong with a catalogue, each fault by itself and at its place: of the document, its views, their names and what each is over, and
+-- the shape.
 use Rattle.std.specs.Prelude.{◌≡◌, ℕ, ◌++◌, nat_le, nat_lt, not, Bool, true, false, List, [], ◌∷◌, map, length, take, slice_get, codes, Option, Some, None, is_some, unwrap_or, option_and_then, if◌then◌else◌}
 use Rattle.std.specs.Str.{is_utf8}
 use Rattle.toml.specs.Data.{Data, get}
@@ -52,12 +53,13 @@ view_names tables = map (λ entry. unwrap_or (view_name entry) []) tables
 abbrev pub view_overs : List Data → List (Option (List (List ℕ)))
 view_overs tables = map (λ entry. option_and_then texts_in (get (codes "over") entry)) tables
 
--- the first view of a name is not above the view of this number
+-- the first view of a name does not stand above the view of this number
 abbrev pub is_not_above : ℕ → Option ℕ → Bool
 is_not_above view None = false
 is_not_above view (Some number) = nat_le view number
 
--- what is judged of a child of the view, below children of these names: no view has the name, the first that has it is not above, it stood earlier
+-- what is judged of a child of the view, below children of these names: no view has the name; the first that has it is not above; it stood
+-- earlier
 abbrev pub child_judged : List (List ℕ) → ℕ → List (List ℕ) → List ℕ → List (Option LoadFault)
 child_judged names view before child =
     fault_if (not (is_some (number_of names child))) (fault.Shape (Unknown view child))

@@ -82,12 +82,12 @@ derived_view header entry texts = do
     output.1,
   )
 
--- a view without `over` is a base view
+-- the view of a table: without `over` it is a base view, else a derived one
 abbrev pub view_at : Views → List ViewOf → Option Data → Data → Texts → ViewOutcome
 view_at shape views None entry texts = base_view entry texts
 view_at shape views (Some over) entry texts = derived_view (header_of shape views (length views)) entry texts
 
--- the view after these
+-- the view of a table that comes after these views
 abbrev pub next_view : Views → List ViewOf → Data → Texts → ViewOutcome
 next_view shape views entry texts = view_at shape views (get (codes "over") entry) entry texts
 

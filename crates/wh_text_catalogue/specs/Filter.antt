@@ -17,7 +17,7 @@ filter_written header value texts = do
   known ← unless_unknown (unknown_in_test header.columns formed) formed
   whole_pred header known texts
 
--- the predicate of this key, which every row meets where it is missing
+-- the predicate of the key, or the one that every row meets where the key is missing
 abbrev pub filter_at : HeaderOf → Option Data → Texts → PredOutcome
 filter_at header None texts = Ok (True, texts)
 filter_at header (Some value) texts = filter_written header value texts

@@ -22,7 +22,7 @@ abbrev pub unknown_in_expr : List NamedKind → ℕ → Data → Option (List �
 unknown_in_expr columns zero value = None
 unknown_in_expr columns (suc levels) value = unknown_in_form columns (unknown_in_expr columns levels) (expr_form value)
 
--- the first that is found in some values, from left to right
+-- the first reference to no column that is found in some values, from left to right
 abbrev pub first_unknown : (Data → Option (List ℕ)) → List Data → Option (List ℕ)
 first_unknown within [] = None
 first_unknown within (value ∷ rest) = option_or (within value) (first_unknown within rest)

@@ -34,7 +34,7 @@ ExprOutcome = Result (TypedExpr × Texts) LoadFault
 abbrev pub PredOutcome : Type 0
 PredOutcome = Result (PredTree × Texts) LoadFault
 
--- the kinds do not fit
+-- the fault that the kinds do not fit
 abbrev pub unfit : HeaderOf → LoadFault
 unfit header = fault.Kind header.view
 
@@ -49,7 +49,7 @@ operation Plus left right = tree.Add left right
 operation Minus left right = tree.Sub left right
 operation Times left right = tree.Mul left right
 
--- an operation takes whole numbers
+-- an operation, which takes whole numbers
 abbrev pub combined : HeaderOf → Sign → TypedExpr → TypedExpr → Result ExprTree LoadFault
 combined header sign left right =
     if is_int left.kind && is_int right.kind then Ok (operation sign left.expr right.expr) else Err (unfit header)
@@ -60,7 +60,7 @@ typed_column header reference = do
   cell ← ok_or (cell_of header.columns reference) (unfit header)
   Ok (record { kind = cell.kind; expr = tree.Column cell.place })
 
--- a text stands as its number, which it has from here on
+-- a text as its number, which it has from here on
 abbrev pub typed_literal : Texts → List ℕ → ExprOutcome
 typed_literal texts text = Ok (record { kind = Text; expr = tree.Number (pos (number_of_text texts text)) }, with_text texts text)
 
@@ -72,7 +72,7 @@ typed_operation header typed sign left right texts = do
   expr ← combined header sign first.0 second.0
   Ok (record { kind = Int; expr = expr }, second.1)
 
--- the texts stay as they are
+-- the expression, with the texts as they are
 abbrev pub keeping : Texts → Result TypedExpr LoadFault → ExprOutcome
 keeping texts (Ok typed) = Ok (typed, texts)
 keeping texts (Err first) = Err first
@@ -96,7 +96,7 @@ compares_texts Equal = true
 compares_texts NotEqual = true
 compares_texts _ = false
 
--- two numbers by any comparison, two texts by these, and never a text with a number
+-- a comparison fits the kinds: two numbers by any comparison, two texts by = and <> alone, and never a text with a number
 abbrev pub fits_kinds : Comparison → Kind → Kind → Bool
 fits_kinds comparison Int Int = true
 fits_kinds comparison Text Text = compares_texts comparison

@@ -67,7 +67,7 @@ pub record Groups : Type 0 where
   pub names : Seen
   pub found : GroupColumns
 
--- these names, columns and places
+-- the groups of these names, columns and places
 abbrev pub groups : Seen → List NamedKind → List ℕ → Groups
 groups names columns places = record { names = names; found = group_columns columns places }
 
@@ -100,19 +100,19 @@ summary_columns header view value texts = do
   columns ← checked (nat_le (length sums.0.columns) 64) (fault.Key key.Group) sums.0.columns
   Ok (record { columns = columns; output = Sums groups.found.places sums.0.exprs }, sums.1)
 
--- a joined view, which has no `group`
+-- the columns of a view with `keep`, a joined view, which has no `group`
 abbrev pub joined_columns_alone : HeaderOf → Data → Option Data → Texts → OutputOutcome
 joined_columns_alone header value None texts = joined_columns header value texts
 joined_columns_alone header value (Some group) texts = do
   columns ← joined_columns header value texts
   Err (fault.Key key.Group)
 
--- a view without `keep` is a summary, which has `group`
+-- the columns of a view without `keep`, a summary, which has `group`
 abbrev pub summary_columns_if_grouped : HeaderOf → Data → Option Data → Texts → OutputOutcome
 summary_columns_if_grouped header view None texts = Err (fault.Key key.Keep)
 summary_columns_if_grouped header view (Some group) texts = summary_columns header view group texts
 
--- a view has one of `keep` and `group`
+-- the columns of a view, which has one of `keep` and `group`
 abbrev pub output_at : HeaderOf → Data → Option Data → Option Data → Texts → OutputOutcome
 output_at header view None group texts = summary_columns_if_grouped header view group texts
 output_at header view (Some keep) group texts = joined_columns_alone header keep group texts

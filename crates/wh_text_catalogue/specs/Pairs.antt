@@ -30,7 +30,7 @@ pub record WrittenPair : Type 0 where
 abbrev pub named_pair : List ℕ → Data → Option WrittenPair
 named_pair name value = if is_name name then Some (record { name = name; value = value }) else None
 
--- a name and any value
+-- a pair of a name and any value
 abbrev pub pair_of : List Data → Option WrittenPair
 pair_of (string name ∷ value ∷ []) = named_pair name value
 pair_of _ = None
@@ -48,7 +48,7 @@ pairs_written key value = ok_or (option_and_then (pairs_in []) (array_of value))
 abbrev pub are_exprs : List WrittenPair → Bool
 are_exprs pairs = list_all (λ pair. is_whole_expr pair.value) pairs
 
--- the same text, none where it has not the form of a reference
+-- the text, none where it has not the form of a reference
 abbrev pub referring : List ℕ → Option (List ℕ)
 referring text = if is_reference text then Some text else None
 
@@ -73,11 +73,11 @@ pub record TypedColumns : Type 0 where
   pub columns : List NamedKind
   pub exprs : List ExprTree
 
--- these columns and expressions
+-- columns and expressions as one
 abbrev pub typed_columns : List NamedKind → List ExprTree → TypedColumns
 typed_columns columns exprs = record { columns = columns; exprs = exprs }
 
--- the columns, and one more, which this expression gives
+-- the columns with one more, which this expression gives
 abbrev pub with_expr : TypedColumns → List ℕ → TypedExpr → TypedColumns
 with_expr found name typed = record {
   columns = found.columns ++ record { name = name; kind = typed.kind } ∷ [];
@@ -107,11 +107,11 @@ pub record GroupColumns : Type 0 where
   pub columns : List NamedKind
   pub places : List ℕ
 
--- these columns and places
+-- columns and places as one
 abbrev pub group_columns : List NamedKind → List ℕ → GroupColumns
 group_columns columns places = record { columns = columns; places = places }
 
--- the columns, and one more, of this cell
+-- the columns with one more, of this cell
 abbrev pub with_cell : GroupColumns → List ℕ → Cell → GroupColumns
 with_cell found name cell = record {
   columns = found.columns ++ record { name = name; kind = cell.kind } ∷ [];

@@ -16,7 +16,8 @@ catalog_of shape views = record {
   definitions = map (λ view. view.definition) views;
 }
 
--- the views make a catalogue over the shape: each has 1 to 64 columns, and exactly the derived ones have a definition, over their combined rows, of so many columns, each of whose places lies in these rows; and their columns are named
+-- The views make a catalogue over the shape. Each has 1 to 64 named columns, and exactly the derived ones have a definition over their
+-- combined rows. It has as many columns, and each of its places lies in these rows
 pub record AreDefinitions (shape : Views) (views : List ViewOf) : Type 0 where
   pub catalog : IsCatalog (catalog_of shape views)
   pub named : All (λ view. AreNamed view.columns) views

@@ -7,6 +7,6 @@ use Rattle.wh_text.specs.NameForm.{is_name}
 abbrev pub dot : ℕ
 dot = 46
 
--- two names with one dot between them: no name has a dot, so the first is the only one
+-- the text is two names with one dot between them: no name has a dot, so the first is the only one
 abbrev pub is_reference : List ℕ → Bool
 is_reference text = is_name (before_first (λ byte. byte == dot) text) && is_name (after_first (λ byte. byte == dot) text)

@@ -16,12 +16,12 @@ use Rattle.wh_text_catalogue.specs.WrittenView.{IsWholeView}
 
 -- Base views.
 
--- the text is the name, a colon and the word of the kind; for a column of whole numbers the name alone will do
+-- the text is the name, a colon and the word of the kind; for a column of whole numbers it may be the name alone
 abbrev pub IsColumnText : List ℕ → Kind → List ℕ → Type 0
 IsColumnText name Int text = (text ≡ name) ⊎ (text ≡ name ++ colon ∷ codes "int")
 IsColumnText name Text text = text ≡ name ++ colon ∷ codes "text"
 
--- the values are such texts, one for each column in their order
+-- the values are the texts of these columns, one for each in their order
 abbrev pub AreColumnsWritten : List NamedKind → List Data → Type 0
 AreColumnsWritten [] [] = Unit {0}
 AreColumnsWritten [] (value ∷ values) = ⊥

@@ -43,14 +43,14 @@ abbrev mutual
   literals (array items) = literals_of items
   literals _ = []
 
-  -- those of some formulas
+  -- the texts of the literals of some formulas, from left to right
   pub literals_of : Items → List (List ℕ)
   literals_of no_items = []
   literals_of (item value rest) = literals value ++ literals_of rest
 
 -- Expressions.
 
--- a constant: a number as it is, and the number of a text as that text
+-- the value writes a constant: a number as it is, and the number of a text as that text
 abbrev pub IsConstantWritten : List (List ℕ) → Kind → ℤ → Data → Type 0
 IsConstantWritten texts Int number value = value ≡ integer number
 IsConstantWritten texts Text number value = (text : List ℕ) × (text_of_cell texts number ≡ Some text) × (value ≡ literal text)
@@ -72,7 +72,7 @@ IsExprWritten columns texts (Mul a b) kind value =
 
 -- Predicates.
 
--- whole numbers are compared by any comparison, texts by = and <> alone
+-- a kind may be compared so: whole numbers by any comparison, texts by = and <> alone
 abbrev pub IsComparable : Kind → Comparison → Type 0
 IsComparable Int comparison = Unit {0}
 IsComparable Text Equal = Unit {0}

@@ -28,8 +28,8 @@ RowsAreReferences =
 abbrev pub ReadShapesAreNamed : Type 0
 ReadShapesAreNamed = (text : List ℕ) (shape : Views) → shape_of text ≡ Ok shape → IsNamedShape shape
 
--- a child's columns stand in the combined row behind those of the children before it, each at its own place, under the child's
--- name, a dot and the column's name, and of the column's kind
+-- A child's columns stand in the combined row behind those of the children before it, each at its own place and of the column's kind. Each
+-- stands under the child's name, a dot and the column's name
 abbrev pub ColumnsStandInRows : Type 0
 ColumnsStandInRows =
     (shape : Views) (views : List ViewOf) (view : ℕ) (before : List ℕ) (child : ℕ) (later : List ℕ) (place : ℕ) (column : NamedKind) →

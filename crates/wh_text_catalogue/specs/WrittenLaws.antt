@@ -18,7 +18,7 @@ use Rattle.wh_text_catalogue.specs.Header.{HeaderOf}
 use Rattle.wh_text_catalogue.specs.Reference.{dot}
 use Rattle.wh_text_catalogue.specs.WrittenFormula.{IsExprWritten, IsPredWritten, literals}
 
--- a child's name, a dot, and a column's name
+-- the text is a child's name, a dot, and a column's name
 pub record IsReference (text : List ℕ) : Type 0 where
   pub child : List ℕ
   pub column : List ℕ

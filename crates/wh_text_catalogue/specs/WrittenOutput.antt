@@ -27,19 +27,19 @@ named_value name value = array (items_of (string name ∷ value ∷ []))
 abbrev pub IsPairWritten : List NamedKind → Texts → NamedKind → ExprTree → Data → Type 0
 IsPairWritten row texts column own value = (part : Data) × (value ≡ named_value column.name part) × IsExprWritten row texts own column.kind part
 
--- the values are such pairs, one for each column and its expression, in their order
+-- the values are pairs of a column's name and its expression, one for each column in their order
 abbrev pub ArePairsWritten : List NamedKind → Texts → List NamedKind → List ExprTree → List Data → Type 0
 ArePairsWritten row texts [] [] [] = Unit {0}
 ArePairsWritten row texts (column ∷ columns) (own ∷ exprs) (value ∷ values) =
     IsPairWritten row texts column own value × ArePairsWritten row texts columns exprs values
 ArePairsWritten row texts _ _ _ = ⊥
 
--- what stands at the key is an array of such pairs
+-- what stands at the key is an array of pairs of these columns and expressions
 abbrev pub IsListWritten : List NamedKind → Texts → List NamedKind → List ExprTree → Option Data → Type 0
 IsListWritten row texts columns exprs None = ⊥
 IsListWritten row texts columns exprs (Some value) = (values : List Data) × (value ≡ array (items_of values)) × ArePairsWritten row texts columns exprs values
 
--- the same, or nothing where there are none
+-- what stands at the key is an array of pairs of these columns and expressions, or nothing where there are none
 abbrev pub IsListWrittenIfAny : List NamedKind → Texts → List NamedKind → List ExprTree → Option Data → Type 0
 IsListWrittenIfAny row texts columns exprs None = (columns ≡ []) × (exprs ≡ [])
 IsListWrittenIfAny row texts columns exprs (Some value) = IsListWritten row texts columns exprs (Some value)
@@ -50,8 +50,8 @@ IsListWrittenIfAny row texts columns exprs (Some value) = IsListWritten row text
 abbrev pub number_column : List ℕ → NamedKind
 number_column name = record { name = name; kind = Int }
 
--- the columns of a summary are its groups, its count and its sums: `group` writes each group as a pair of its name and the
--- reference of the cell, `count` is a name, and `sum` writes each sum, where there are any
+-- The columns of a summary are its groups, its count and its sums. `group` writes each group as a pair of its name and the reference of the
+-- cell, `count` is a name, and `sum` writes each sum, where there are any
 pub record IsSummaryWritten (row : List NamedKind) (texts : Texts) (columns : List NamedKind) (places : List ℕ) (sums : List ExprTree) (entry : Data) : Type 0 where
   pub groups : List NamedKind
   pub count : List ℕ
@@ -78,8 +78,8 @@ abbrev pub literals_at : Option Data → List (List ℕ)
 literals_at None = []
 literals_at (Some value) = literals value
 
--- the entry writes these 1 to 64 named columns and their output, of expressions of at most 64 levels, with the texts that
--- the literals of `keep` have numbered in order
+-- The entry writes these 1 to 64 named columns and their output, of expressions of at most 64 levels. The texts are those that the literals
+-- of `keep` have numbered in order
 pub record IsWholeOutput (header : HeaderOf) (entry : Data) (texts : Texts) (own : ColumnsOf) (after : Texts) : Type 0 where
   pub written : IsOutputWritten header.columns after own.columns own.output entry
   pub levels : All (λ e. expr.depth e ≤ 64) (exprs_of own.output)

@@ -84,8 +84,8 @@ pub record IsViewWritten (row : List NamedKind) (texts : Texts) (columns : List 
   pub filter : IsFilterWritten row texts definition.filter (get (codes "where") entry)
   pub output : IsOutputWritten row texts columns definition.output entry
 
--- the entry writes this derived view of 1 to 64 named columns, of formulas of at most 64 levels, with the texts that first
--- the literals of `where` and then those of `keep` have numbered in order
+-- The entry writes this derived view of 1 to 64 named columns, of formulas of at most 64 levels. The texts are those that first the
+-- literals of `where` and then those of `keep` have numbered in order
 pub record IsWholeView (header : HeaderOf) (entry : Data) (texts : Texts) (own : ViewOf) (after : Texts) : Type 0 where
   pub definition : DefinitionOf
   pub defined : own.definition ≡ Some definition

@@ -1,4 +1,4 @@
-//! The catalogue: which views there are, and which views each is over.
+//! Reads of a catalogue which views there are, and which views each is over.
 ghost use Rattle.std.specs.Prelude.{◌≡◌, ◌⊎◌, map, string_bytes, option_map, option_copied, IfOk, IfErr, Ok, Err, vec_len};
 ghost use Rattle.std.specs.List.{AllPass, list_all};
 ghost use Rattle.toml.specs.Data.{get_member};
@@ -22,7 +22,7 @@ struct Written {
     ghost paired: { vec_len names ≡ vec_len over },
 }
 
-/// The document that a catalogue's text is, else Toml.
+/// Returns the document that a catalogue's text is, else Toml.
 pub(crate) fn document(alloc: Global, text: &[u8]) -> Result<Table, LoadFault>
     ensures ok { IfOk result (λ document. document_of text.now ≡ Ok (table_view document)) }
     ensures err { IfErr result (λ f. (f ≡ LoadFault.Memory) ⊎ (document_of text.now ≡ Err f)) }
@@ -38,14 +38,14 @@ pub(crate) fn document(alloc: Global, text: &[u8]) -> Result<Table, LoadFault>
     }
 }
 
-/// What the document has at the key.
+/// Returns what the document has at the key.
 pub(crate) fn member<'a>(table: &'a Table, key: &str) -> Option<&'a Value>
     ensures { option_map (λ value. view value.now) result ≡ get_member key.now (table_view table.now) }
 {
     table.get(key)
 }
 
-/// The values of an array, none where it is no array.
+/// Returns the values of an array, none where it is no array.
 pub(crate) fn array_of(value: &Value) -> Option<&Vec<Value>>
     ensures { option_map (λ values. map view values.now.items) result ≡ array_of (view value.now) }
 {
@@ -59,7 +59,7 @@ fn are_tables(values: &[Value]) -> bool
     values.iter().all(|value| value.is_table())
 }
 
-/// The views of a document, in the order of their numbers, none where it has no array of tables at `view`.
+/// Returns the views of a document, in the order of their numbers, none where it has no array of tables at `view`.
 pub(crate) fn views_of(document: &Table) -> Option<&Vec<Value>>
     ensures { option_map (λ views. map view views.now.items) result ≡ views_of (table_view document.now) }
 {
@@ -67,7 +67,7 @@ pub(crate) fn views_of(document: &Table) -> Option<&Vec<Value>>
     if are_tables(views) { Some(views) } else { None }
 }
 
-/// The name of a view, none where it is missing or has another form.
+/// Returns the name of a view, none where it is missing or has another form.
 pub(crate) fn view_name(value: &Value) -> Option<&str>
     ensures { option_copied result ≡ view_name (view value.now) }
 {
@@ -150,9 +150,9 @@ fn shape_written(alloc: Global, views: Written) -> Result<Shape, LoadFault>
     Ok(Shape::new(alloc, names, over)?)
 }
 
-/// Reads the shape of a catalogue, a text in TOML 1.1: the `name` and `over` of each view, and no other key. The fault
-/// is the first one: Toml; Key(View); view by view Key(Name), then Key(Over); and last the shape's own. Memory may come
-/// at any point.
+/// Reads the shape of a catalogue, a text in TOML 1.1: the `name` and `over` of each view, and no other key.
+/// Fails with the first fault: Toml; Key(View); view by view Key(Name), then Key(Over); and last the shape's own. Memory may come at any
+/// point.
 pub fn read_shape(alloc: Global, text: &[u8]) -> Result<Shape, LoadFault>
     ensures ok { IfOk result (λ shape. shape_of text.now ≡ Ok shape) }
     ensures named { IfOk result (λ shape. AllPass is_name shape.names) }

@@ -1,4 +1,4 @@
-//! The columns of a catalogue's views, and what its derived views are made of.
+//! Reads the columns of a catalogue's views, and what its derived views are made of.
 ghost use Rattle.std.specs.Prelude.{◌≡◌, ◌⊎◌, [], length, map, Ok, Err, IfOk, IfErr, OnErr};
 ghost use Rattle.toml.specs.View.{view};
 ghost use Rattle.wh_text.specs.Inner.Dict.{BeginsWith, Grows};
@@ -73,14 +73,15 @@ fn read_views(
     Ok(Written { views })
 }
 
-/// Reads the views of a catalogue whose shape was read: their columns, and how each derived view is defined, with
-/// formulas in place of closures. Texts in formulas get numbers in the order of the views and, within a view, of `where`,
-/// then `keep`, from left to right. The fault is the first one, view by view and key by key in the order `columns`, or
-/// `join`, `where`, `keep`, `group`, `count`, `sum`: the form of the whole key (Key), then Column, then Kind. Memory may
-/// come at any point. After an Err the dictionary is as before.
+/// Reads the views of a catalogue whose shape was read: their columns, and how each derived view is defined, with formulas in place of
+/// closures.
+/// Texts in formulas get numbers in the order of the views and, within a view, of `where`, then `keep`, from left to right.
+/// Fails with the first fault, view by view and key by key in the order `columns`, or `join`, `where`, `keep`, `group`, `count`, `sum`. Of
+/// a key the form of the whole comes first (Key), then Column, then Kind. Memory may come at any point. After an error the dictionary is as
+/// before.
 ///
-/// What is read makes a catalogue over the shape: each view has 1 to 64 columns of distinct names, and each derived view
-/// is defined over its combined rows, in which each place that the definition reads lies.
+/// What is read makes a catalogue over the shape. Each view has 1 to 64 columns of distinct names. Each derived view is defined over its
+/// combined rows, in which each place that the definition reads lies.
 pub fn read_definitions(
     alloc: Global,
     text: &[u8],
@@ -101,8 +102,8 @@ pub fn read_definitions(
     outcome
 }
 
-/// A law of the definitions: what is read of a catalogue's text is a catalogue over its shape, where each place that a
-/// definition reads lies in its combined row.
+/// A law of the definitions: what is read of a catalogue's text is a catalogue over its shape, where each place that a definition reads
+/// lies in its combined row.
 pub fn definitions_fit_law()
     ensures { DefinitionsFit }
 {}

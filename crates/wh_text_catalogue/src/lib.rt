@@ -1,7 +1,7 @@
-//! The text of a catalogue: the shape of its views, and their definitions.
+//! Reads the text of a catalogue: the shape of its views, and their definitions.
 //!
-//! [`read_shape`] reads which views there are and which each is over, [`read_definitions`] the columns of each view and how
-//! the derived ones are made.
+//! [`read_shape`] reads which views there are and which each is over. [`read_definitions`] reads the columns of each view and how the
+//! derived ones are made.
 #![tactic(auto)]
 
 mod catalogue;

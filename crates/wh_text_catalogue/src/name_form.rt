@@ -1,4 +1,4 @@
-//! The form of a name, of a view or a column.
+//! Tests the form of a name, of a view or a column.
 ghost use Rattle.std.specs.Prelude.{◌≡◌};
 ghost use Rattle.std.specs.List.{list_all};
 ghost use Rattle.wh_text.specs.NameForm.{begins_name, continues_name, is_name};
@@ -26,7 +26,7 @@ fn all_continue(bytes: &[u8]) -> bool
     bytes.iter().all(|byte| continues_name(*byte))
 }
 
-/// Whether the text is 1 to 64 bytes: a letter or an underscore, then letters, digits and underscores (ASCII).
+/// Tells whether the text is 1 to 64 bytes: a letter or an underscore, then letters, digits and underscores (ASCII).
 #[tactic(auto, unfolding(wh_text::specs::NameForm::is_name))]
 pub(crate) fn is_name(text: &str) -> bool
     ensures { result ≡ is_name text.now }

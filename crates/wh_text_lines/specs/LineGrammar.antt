@@ -1,4 +1,5 @@
--- Texts whose lines say something, one below another: which line may stand below others, and what they say together. A line without words says nothing, and counts.
+-- Texts whose lines say something, one below another: which line may stand below others, and what they say together. A line without words
+-- says nothing, and counts.
 use Rattle.std.specs.Prelude.{◌≡◌, ◌↔◌, ◌+◌, ◌++◌, ◌==◌, ℕ, Bool, true, List, [], ◌∷◌, length, Option, Some, None, option_and_then, Result, Ok, Err, if◌then◌else◌}
 use Rattle.wh_text.specs.declared.fault.LoadFault.{LoadFault}
 use Rattle.wh_text_lines.specs.Words.{lines_of, words_of}
@@ -14,7 +15,7 @@ pub record LineGrammar (Said : Type 0) : Type 0 where
   -- the fault of the line of this number
   pub fault : ℕ → LoadFault
 
--- what lines that said this say with any line below them: the same where it has no words
+-- what lines that said this say with any line below them: this where the line has no words
 abbrev pub said_with : {Said : Type 0} → LineGrammar Said → Said → List ℕ → Option Said
 said_with grammar said line = if length (words_of line) == 0 then Some said else grammar.with_line said line (words_of line)
 
@@ -32,7 +33,8 @@ abbrev pub if_stands : {Said : Type 0} → LineGrammar Said → ℕ → Option S
 if_stands grammar number None next = Err (grammar.fault number)
 if_stands grammar number (Some said) next = next said
 
--- what these lines say with others above them that said this and are so many, or the fault of the first one that may not stand where it does, counted from 1
+-- what these lines say with so many above them that said this, or the fault of the first one that may not stand where it does, counted from
+-- 1
 abbrev pub read_below : {Said : Type 0} → LineGrammar Said → ℕ → Said → List (List ℕ) → Result Said LoadFault
 read_below grammar number said [] = if_whole grammar number said
 read_below grammar number said (line ∷ lines) = if_stands grammar (number + 1) (said_with grammar said line) (λ more. read_below grammar (number + 1) more lines)

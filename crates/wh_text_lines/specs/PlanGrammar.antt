@@ -58,7 +58,7 @@ pub record BeginPlan (names : List (List ℕ)) (lines : List (List ℕ)) : Type 
 abbrev pub PlanGrammar : Type 0
 PlanGrammar = (names : List (List ℕ)) (text : List ℕ) (plan : Plan) → (plan_of names text ≡ Ok plan) ↔ SayPlan names (lines_of text) plan
 
--- a text that is no plan is at fault where its lines stop being one: at the first line with which they no longer begin a plan, or after the last
+-- a text that is no plan is at fault at the first line with which its lines no longer begin one, or after the last
 abbrev pub PlanFaults : Type 0
 PlanFaults =
     (names : List (List ℕ)) (text : List ℕ) (fault : LoadFault) → plan_of names text ≡ Err fault →

@@ -42,7 +42,7 @@ abbrev pub pair_in : List (List ℕ) → List (List ℕ) → Option PairMin
 pair_in names words =
     pair_from (number_of names (word_at words 1)) (number_of names (word_at words 2)) (number_of names (word_at words 3)) (natural (word_at words 4))
 
--- what these words say in each form, if they have it
+-- what these words say in a form, if they have it
 abbrev pub scoped_by : List (List ℕ) → Option PlanLine
 scoped_by words = if is_scope words then option_map Scoped (scope_named (word_at words 1)) else None
 

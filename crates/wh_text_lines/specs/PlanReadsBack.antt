@@ -31,21 +31,23 @@ IsNodeWithin views (Branch couple) = (couple.lower < views) × (couple.higher < 
 abbrev pub is_unparted : List ℕ → Bool
 is_unparted name = list_all (λ b. not (is_parting b)) name
 
--- a tree over views of these names that can be written and read back: the names have no semicolon, the nodes are of views, and they are those of a tree at most 1,000 deep
+-- A tree over views of these names that can be written and read back. The names have no semicolon, and the nodes are of views and those of
+-- a tree at most 1,000 deep.
 pub record IsTreeWritable (names : List (List ℕ)) (nodes : List TreeNode) : Type 0 where
   pub unparted : All (λ name. is_unparted name ≡ true) names
   pub within : All (IsNodeWithin (length names)) nodes
   pub tree : CaseTree
   pub whole : IsTreeOf nodes tree
 
--- a certificate that can be: for all, pairs of views; for one-way, a tree
+-- a certificate that can be written and read back: for all, pairs of views; for one-way, a tree
 abbrev pub IsCertificateWritable : List (List ℕ) → Scope → Certificate → Type 0
 IsCertificateWritable names scope.All (Pairs pairs) = All (IsPairWithin (length names)) pairs
 IsCertificateWritable names scope.OneWay (Search nodes) = IsTreeWritable names nodes
 IsCertificateWritable names scope.All (Search nodes) = ⊥
 IsCertificateWritable names scope.OneWay (Pairs pairs) = ⊥
 
--- a plan over views of these names that can be: the names are plain and distinct, the list and the certificate are of views, the certificate fits the scope, and numbers have 128 bits
+-- A plan over views of these names that can be written and read back. The names are plain and distinct, and the list and the certificate
+-- are of views. The certificate fits the scope, and numbers have 128 bits.
 pub record IsWritable (names : List (List ℕ)) (own : Scope) (work : ℕ) (list : List Expression) (certificate : Certificate) : Type 0 where
   pub plain : All (λ name. is_plain name ≡ true) names
   pub distinct : AllPairs (λ first second. first ≢ second) names

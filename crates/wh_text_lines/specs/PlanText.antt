@@ -46,7 +46,8 @@ abbrev pub has_pairs : Scope → Bool
 has_pairs scope.All = true
 has_pairs scope.OneWay = false
 
--- a line of this kind may stand after these: the scope first, the work second, then the list, and at the end the certificate that fits the scope
+-- A line of this kind may stand after these. The scope is first, the work second, then comes the list, and at the end the certificate that
+-- fits the scope.
 abbrev pub may_stand : List PlanLine → PlanLine → Bool
 may_stand before (Scoped s) = length before == 0
 may_stand before (Worked n) = length before == 1

@@ -39,7 +39,7 @@ pub record BeginSchedule (names : List (List ℕ)) (lines : List (List ℕ)) : T
 abbrev pub ScheduleGrammar : Type 0
 ScheduleGrammar = (names : List (List ℕ)) (text : List ℕ) (schedule : ScheduleOf) → (schedule_of names text ≡ Ok schedule) ↔ SaySchedule names (lines_of text) schedule
 
--- a text that is no schedule is at fault where its lines stop being one: at the first line with which they no longer begin a schedule, or after the last
+-- a text that is no schedule is at fault at the first line with which its lines no longer begin one, or after the last
 abbrev pub ScheduleFaults : Type 0
 ScheduleFaults =
     (names : List (List ℕ)) (text : List ℕ) (fault : LoadFault) → schedule_of names text ≡ Err fault →

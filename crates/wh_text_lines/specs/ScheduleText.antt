@@ -10,7 +10,8 @@ use Rattle.wh_text_lines.specs.declared.schedule.event.ScheduledEvent.{Scheduled
 use Rattle.wh_text_lines.specs.declared.schedule.line.ScheduleLine.{ScheduleLine}
 use Rattle.wh_text_lines.specs.declared.schedule.line.ScheduleLine.TheVariants.{Desks, Workers, Keys, Versions, Event}
 
--- how many desks and workers a machine has, how many keys its pages have at most, of how many versions it keeps the contents, and the events that it goes through
+-- How many desks and workers a machine has, how many keys its pages have at most, and of how many versions it keeps the contents. Then the
+-- events that it goes through.
 pub record ScheduleOf : Type 0 where
   pub desks : ℕ
   pub workers : ℕ
@@ -18,7 +19,8 @@ pub record ScheduleOf : Type 0 where
   pub versions : ℕ
   pub events : List ScheduledEvent
 
--- a line of this kind may stand after these: first the desks, then the workers, the keys, the versions, and at the end the events, which may stand in place of the versions
+-- A line of this kind may stand after these. First come the desks, then the workers, the keys and the versions, and at the end the events,
+-- which may stand in place of the versions.
 abbrev pub may_follow : List ScheduleLine → ScheduleLine → Bool
 may_follow before (Desks n) = length before == 0
 may_follow before (Workers n) = length before == 1

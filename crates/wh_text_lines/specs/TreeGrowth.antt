@@ -11,7 +11,8 @@ below depth node.Bound = []
 below depth (node.Cycle list) = []
 below depth (node.Branch couple) = (depth + 1) ∷ (depth + 1) ∷ []
 
--- the places where trees are still to stand, the next one first, after this node at the next of these; None where there is none, or it lies more than 1,000 deep
+-- The places where trees are still to stand, the next one first, after this node at the next of these. None where there is none, or it lies
+-- more than 1,000 deep.
 abbrev pub after_node : TreeNode → List ℕ → Option (List ℕ)
 after_node own [] = None
 after_node own (depth ∷ places) = if nat_le depth 1000 then Some (below depth own ++ places) else None
@@ -51,10 +52,10 @@ pub record IsBegun (nodes : List TreeNode) : Type 0 where
   pub begins : preorder tree ≡ nodes ++ rest
   pub within : list_all (λ deep. nat_le deep 1000) (take (length nodes) (depths 1 tree)) ≡ true
 
--- these are exactly the lists of nodes that may stand so far
+-- the test whether nodes begin a tree passes exactly those that do
 abbrev pub BegunTrees : Type 0
 BegunTrees = (nodes : List TreeNode) → (begins_tree nodes ≡ true) ↔ IsBegun nodes
 
--- these are exactly the lists of nodes that are a tree's
+-- the test whether nodes are those of a whole tree passes exactly those that are
 abbrev pub WholeTrees : Type 0
 WholeTrees = (nodes : List TreeNode) → (is_tree nodes ≡ true) ↔ ((tree : CaseTree) × IsTreeOf nodes tree)

@@ -1,4 +1,4 @@
-//! Expressions as words.
+//! Reads and writes expressions as words, of which strategies and plans have a line each.
 ghost use Rattle.std.specs.Prelude.{◌≡◌, ◌<◌, ◌++◌, ◌∷◌, length, map, flat_map, option_map, IfOk, IsTrue, OnOk, OnErr};
 ghost use Rattle.wh_dag.specs.Written.{name_of};
 ghost use Rattle.wh_text_lines.specs.ExpressionText.{views_of, is_comp, is_inst, comp_of, inst_of, expression_of, expression_text};
@@ -7,13 +7,13 @@ use std::alloc::{AllocError, Global};
 use wh_strategy::{Expression, Sources};
 use wh_text::Names;
 
-/// The numbers of the views of these names, or `None` where one is no view's.
+/// Returns the numbers of the views of these names, or `None` where one is no view's.
 fn views_of(alloc: Global, names: &Names, words: &[&[u8]]) -> Result<Option<Vec<usize>>, AllocError>
     ensures { IfOk result (λ views. option_map (λ v. v.items) views ≡ views_of names.now (map (λ word. word.now) words.now)) }
 {
     let mut views = Vec::new(alloc);
     for word in words {
-        let Some(view) = names.number(*word) else {
+        let Some(view) = names.position(*word) else {
             return Ok(None);
         };
         views.push(view)?;
@@ -21,7 +21,7 @@ fn views_of(alloc: Global, names: &Names, words: &[&[u8]]) -> Result<Option<Vec<
     Ok(Some(views))
 }
 
-/// Whether the words have the form `comp V from U ..`, with one U or more.
+/// Returns whether the words have the form `comp V from U ..`, with one U or more.
 fn is_comp(words: &[&[u8]]) -> bool
     ensures value { result ≡ is_comp (map (λ word. word.now) words.now) }
     ensures long { IsTrue result → 3 < length words.now }
@@ -32,7 +32,7 @@ fn is_comp(words: &[&[u8]]) -> bool
     }
 }
 
-/// Whether the words have the form `inst V`.
+/// Returns whether the words have the form `inst V`.
 fn is_inst(words: &[&[u8]]) -> bool
     ensures value { result ≡ is_inst (map (λ word. word.now) words.now) }
     ensures long { IsTrue result → 1 < length words.now }
@@ -43,14 +43,14 @@ fn is_inst(words: &[&[u8]]) -> bool
     }
 }
 
-/// The Comp that these words are, or `None`.
+/// Returns the Comp that these words are, or `None`.
 fn comp_of(alloc: Global, names: &Names, words: &[&[u8]]) -> Result<Option<Expression>, AllocError>
     ensures { IfOk result (λ comp. comp ≡ comp_of names.now (map (λ word. word.now) words.now)) }
 {
     if !is_comp(words) {
         return Ok(None);
     }
-    let Some(target) = names.number(words[1]) else {
+    let Some(target) = names.position(words[1]) else {
         return Ok(None);
     };
     let Some(sources) = views_of(alloc, names, &words[3..])? else {
@@ -59,18 +59,18 @@ fn comp_of(alloc: Global, names: &Names, words: &[&[u8]]) -> Result<Option<Expre
     Ok(Some(Expression::Comp(target, Sources::new(sources))))
 }
 
-/// The Inst that these words are, or `None`.
+/// Returns the Inst that these words are, or `None`.
 fn inst_of(names: &Names, words: &[&[u8]]) -> Option<Expression>
     ensures { result ≡ inst_of names.now (map (λ word. word.now) words.now) }
 {
     if !is_inst(words) {
         return None;
     }
-    let target = names.number(words[1])?;
+    let target = names.position(words[1])?;
     Some(Expression::Inst(target))
 }
 
-/// The expression that these words are, `comp V from U ..` or `inst V` with names of views, or `None`.
+/// Returns the expression that these words are, `comp V from U ..` or `inst V` with names of views, or `None`.
 pub(crate) fn expression_of(
     alloc: Global,
     names: &Names,
@@ -84,7 +84,7 @@ pub(crate) fn expression_of(
     Ok(inst_of(names, words))
 }
 
-/// Appends the name of the view; a number that is no view's has none.
+/// Appends the name of the view; of a number that is no view's it appends nothing.
 pub(crate) fn append_name(out: &mut Vec<u8>, names: &Names, view: usize) -> Result<(), AllocError>
     ensures { OnOk result (out.new.items ≡ out.old.items ++ name_of names.now view) }
 {
@@ -105,7 +105,7 @@ fn append_sources(out: &mut Vec<u8>, names: &Names, sources: &[usize]) -> Result
     Ok(())
 }
 
-/// Appends the expression as [`write_expression`] does, but where memory fails a part of it may have been appended.
+/// Appends the expression as it is written. Where memory fails, a part of it may have been appended.
 pub(crate) fn append_expression(
     out: &mut Vec<u8>,
     names: &Names,
@@ -127,9 +127,8 @@ pub(crate) fn append_expression(
     }
 }
 
-/// Appends the expression as it is written, `comp V from U ..` or `inst V`, with one space between words and no LF. A
-/// number that is no view's is written as an empty name. Where memory fails, nothing is appended. Takes O(n) for n
-/// bytes that are written.
+/// Appends the expression as it is written, `comp V from U ..` or `inst V`, with one space between words and no LF. A number that is no
+/// view's is written as an empty name. Where memory fails, nothing is appended. Takes O(n) for n bytes that are written.
 pub fn write_expression(
     out: &mut Vec<u8>,
     names: &Names,

@@ -13,11 +13,11 @@ pub(crate) trait Grammar {
 
     ghost grammar: { Self → LineGrammar Self.Said };
 
-    /// What no line has said. It takes no memory.
+    /// Returns what no line has said. It takes no memory.
     fn nothing(&self, alloc: Global) -> Self::Said
         ensures { result ≡ (grammar self.now).nothing };
 
-    /// What lines that said this say with a line of these words below them, or `None` where it may not stand there.
+    /// Returns what lines that said this say with a line of these words below them, or `None` where it may not stand there.
     fn with_line(
         &self,
         alloc: Global,
@@ -27,16 +27,16 @@ pub(crate) trait Grammar {
     ) -> Result<Option<Self::Said>, AllocError>
         ensures { IfOk result (λ more. more ≡ (grammar self.now).with_line said line.now (map (λ word. word.now) words.now)) };
 
-    /// Whether lines that said this may be all of a text.
+    /// Returns whether lines that said this may be all of a text.
     fn may_end(&self, said: &Self::Said) -> bool
         ensures { result ≡ (grammar self.now).may_end said.now };
 
-    /// The fault of the line of this number.
+    /// Returns the fault of the line of this number.
     fn fault(&self, number: usize) -> LoadFault
         ensures { result ≡ (grammar self.now).fault number };
 }
 
-/// What lines that said this say with the line of this number below them.
+/// Returns what lines that said this say with the line of this number below them.
 fn with_line<G: Grammar>(
     alloc: Global,
     grammar: &G,
@@ -58,9 +58,8 @@ fn with_line<G: Grammar>(
     }
 }
 
-/// What the lines of the text say together. The fault is the grammar's with the first line that may not stand below those
-/// above it, counted from 1, blank ones included; where the text ends too early, that is the line after its last. An empty text
-/// takes no memory.
+/// Returns what the lines of the text say together. The fault is the grammar's with the first line that may not stand below those above it,
+/// counted from 1, blank ones included. Where the text ends too early, that is the line after its last. An empty text takes no memory.
 pub(crate) fn read_lines<G: Grammar>(
     alloc: Global,
     grammar: &G,
@@ -85,9 +84,9 @@ pub(crate) fn read_lines<G: Grammar>(
     Ok(said)
 }
 
-/// A law of the definitions, for whatever lines may say: a text is read as what its lines say together, where each may stand
-/// below those above it and the last may be the last. Any other text is at fault at the first line that may not stand there, or
-/// after its last line.
+/// A law of the definitions: a text is read as what its lines say together, where each may stand below those above it and the last may be
+/// the last. This holds for whatever lines may say. Any other text is at fault at the first line that may not stand there, or after its
+/// last line.
 pub fn line_grammar_law<Said>()
     ensures read { LinesRead Said }
     ensures stop { LinesStop Said }

@@ -1,10 +1,10 @@
-//! The natural numbers that words write.
+//! Reads the natural numbers that words write.
 ghost use Rattle.std.specs.Prelude.{◌≡◌, ◌==◌, slice_index};
 ghost use Rattle.wh_text_lines.specs.Natural.{natural, number_within};
 
 use std::str;
 
-/// Whether the word begins with a plus.
+/// Returns whether the word begins with a plus.
 fn has_plus(word: &[u8]) -> bool
     ensures { result ≡ (slice_index word.now 0 == 43) }
 {
@@ -14,7 +14,7 @@ fn has_plus(word: &[u8]) -> bool
     }
 }
 
-/// The number that a word writes: one or more digits and nothing else, below 2^128.
+/// Returns the number that a word writes: one or more digits and nothing else, below 2^128.
 pub(crate) fn natural(word: &[u8]) -> Option<u128>
     ensures { result ≡ natural word.now }
 {
@@ -28,7 +28,7 @@ pub(crate) fn natural(word: &[u8]) -> Option<u128>
     }
 }
 
-/// The number that a word writes, where it is from `low` to `high`.
+/// Returns the number that a word writes, where it is from `low` to `high`.
 pub(crate) fn number_within(low: usize, high: usize, word: &[u8]) -> Option<usize>
     ensures { result ≡ number_within low high word.now }
 {

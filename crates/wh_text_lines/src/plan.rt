@@ -1,4 +1,4 @@
-//! A plan as text: its scope, its work, the list of its strategy, and the lines of its certificate.
+//! Reads and writes a plan as text: its scope, its work, the list of its strategy, and the lines of its certificate.
 ghost use Rattle.std.specs.Prelude.{◌≡◌, ◌≢◌, ◌⊎◌, ◌++◌, [], Ok, Err, IfOk, IfErr, IsTrue, OnOk, OnErr};
 ghost use Rattle.std.specs.List.{flat_map, join_with_byte};
 ghost use Rattle.wh_text_lines.specs.PlanGrammar.{PlanFaults, PlanGrammar};
@@ -36,7 +36,7 @@ pub struct Plan {
     pub certificate: Certificate,
 }
 
-/// The work that the second of these lines says.
+/// Returns the work that the second of these lines says.
 fn work_in(lines: &[PlanLine]) -> u128
     ensures { result ≡ work_in lines.now }
 {
@@ -46,7 +46,7 @@ fn work_in(lines: &[PlanLine]) -> u128
     }
 }
 
-/// The certificate of this scope, of pairs or of the nodes of a tree.
+/// Makes the certificate of this scope, of pairs or of the nodes of a tree.
 fn certificate_of(scope: Scope, pairs: Vec<PairMin>, nodes: Vec<TreeNode>) -> Certificate
     requires { IsTrue (has_its_tree scope nodes.items) }
     ensures { result ≡ certificate_of scope pairs.items nodes.items }
@@ -60,7 +60,7 @@ fn certificate_of(scope: Scope, pairs: Vec<PairMin>, nodes: Vec<TreeNode>) -> Ce
     }
 }
 
-/// The plan that these lines say.
+/// Makes the plan that these lines say.
 fn plan_from(alloc: Global, lines: Vec<PlanLine>) -> Result<Plan, AllocError>
     requires { IsTrue (may_end lines.items) }
     ensures { IfOk result (λ plan. plan ≡ plan_from lines.items) }
@@ -86,14 +86,13 @@ fn plan_from(alloc: Global, lines: Vec<PlanLine>) -> Result<Plan, AllocError>
     })
 }
 
-/// The plan that the text is, over these views: `scope all` or `scope one-way`, `work N`, the lines of a strategy, and its
-/// certificate. For all, that is a line `pair V U W N` for each pair; for one-way the nodes of a tree at most
-/// [`wh_cert::MAX_DEPTH`] deep, in preorder, each a line `bound`, `cycle E; E; ..` or `branch U W`. Lines of spaces and tabs
-/// alone are skipped.
+/// Reads the plan that the text is, over these views: `scope all` or `scope one-way`, `work N`, the lines of a strategy, and its
+/// certificate. For all, that is a line `pair V U W N` for each pair. For one-way it is the nodes of a tree at most [`wh_cert::MAX_DEPTH`]
+/// deep, in preorder, each a line `bound`, `cycle E; E; ..` or `branch U W`. Lines of spaces and tabs alone are skipped. Whether the plan
+/// is right is for `certify` to judge.
 ///
-/// The fault is `Plan` with the first line that may not stand where it does, counted from 1, blank ones included; where the
-/// text ends too early, that is the line after its last. An empty text is at fault at line 1, always. Whether the plan is right is
-/// for `certify` to judge.
+/// The fault is `Plan` with the first line that may not stand where it does, counted from 1, blank ones included. Where the text ends too
+/// early, that is the line after its last. An empty text is at fault at line 1, always.
 pub fn read_plan(alloc: Global, names: &Names, text: &[u8]) -> Result<Plan, LoadFault>
     ensures ok { IfOk result (λ plan. plan_of names.now text.now ≡ Ok plan) }
     ensures err { IfErr result (λ f. (f ≡ LoadFault.Memory) ⊎ (plan_of names.now text.now ≡ Err f)) }
@@ -154,7 +153,7 @@ fn append_certificate(
     }
 }
 
-/// The name of a scope.
+/// Returns the name of a scope.
 fn scope_text(scope: Scope) -> &'static str
     ensures { result.now ≡ scope_text scope }
 {
@@ -164,30 +163,29 @@ fn scope_text(scope: Scope) -> &'static str
     }
 }
 
-/// A law of the definitions: the nodes that a one-way plan may have so far are exactly those that begin a tree in preorder,
-/// none of them more than [`wh_cert::MAX_DEPTH`] deep, and it may end exactly where they are all of one.
+/// A law of the definitions: the nodes that a one-way plan may have so far are exactly those that begin a tree in preorder. It may end
+/// exactly where they are all of one. None of them is more than [`wh_cert::MAX_DEPTH`] deep.
 pub fn tree_lines_law()
     ensures begun { BegunTrees }
     ensures whole { WholeTrees }
 {}
 
-/// A law of the definitions: a text is read as a plan exactly where its lines with words are those of that plan, in order: its
-/// scope, its work, its list, and a certificate that fits the scope, whose nodes, if it has some, are all of a tree. Any other
-/// text is at fault at the first line with which its lines no longer begin a plan, or after its last line.
+/// A law of the definitions: a text is read as a plan exactly where its lines with words are those of that plan, in order. They are its
+/// scope, its work, its list, and a certificate that fits the scope, whose nodes, if it has some, are all of a tree. Any other text is at
+/// fault at the first line with which its lines no longer begin a plan, or after its last line.
 pub fn plan_grammar_law()
     ensures grammar { PlanGrammar }
     ensures faults { PlanFaults }
 {}
 
-/// A law of the definitions: over plain and distinct names, a plan whose certificate fits its scope (for one-way over names
-/// without a semicolon, and with no empty cycle) is read back from its text as it was, and so no two of them have one text.
+/// A law of the definitions: over plain and distinct names, a plan whose certificate fits its scope is read back from its text as it was.
+/// So no two of them have one text. For a one-way plan the names have no semicolon, and no cycle is empty.
 pub fn plan_reads_back_law()
     ensures reads_back { PlanReadsBack }
     ensures distinct { TextsDiffer }
 {}
 
-/// Appends the plan as it is written. A number that is no view's is written as an empty name. Where memory fails, nothing
-/// is appended.
+/// Appends the plan as it is written. A number that is no view's is written as an empty name. Where memory fails, nothing is appended.
 pub fn write_plan(
     alloc: Global,
     out: &mut Vec<u8>,

@@ -1,4 +1,4 @@
-//! A schedule as text: how large the machine is, and the events that it goes through.
+//! Reads a schedule as text: how large the machine is, and the events that it goes through.
 ghost use Rattle.std.specs.Prelude.{◌≡◌, ◌≢◌, ◌⊎◌, ◌≤◌, [], Ok, Err, IfOk, IfErr};
 ghost use Rattle.wh_text_lines.specs.ScheduleGrammar.{ScheduleFaults, ScheduleGrammar};
 ghost use Rattle.wh_text_lines.specs.ScheduleText.{desks_in, keys_in, schedule_from, schedule_of, versions_in, workers_in};
@@ -38,7 +38,7 @@ impl Model for Schedule {
 }
 
 impl Schedule {
-    /// How many desks there are.
+    /// Returns how many desks there are.
     pub fn desks(&self) -> usize
         ensures value { result ≡ self.now.desks }
         ensures some { 1 ≤ result }
@@ -47,7 +47,7 @@ impl Schedule {
         self.desks
     }
 
-    /// How many workers there are.
+    /// Returns how many workers there are.
     pub fn workers(&self) -> usize
         ensures value { result ≡ self.now.workers }
         ensures some { 1 ≤ result }
@@ -56,7 +56,7 @@ impl Schedule {
         self.workers
     }
 
-    /// How many keys a page has at most.
+    /// Returns how many keys a page has at most.
     pub fn keys(&self) -> usize
         ensures value { result ≡ self.now.keys }
         ensures some { 1 ≤ result }
@@ -65,7 +65,7 @@ impl Schedule {
         self.keys
     }
 
-    /// Of how many versions the contents are kept: the current one, and those just before it.
+    /// Returns the number of versions whose contents are kept: the current one, and those just before it.
     pub fn versions(&self) -> usize
         ensures value { result ≡ self.now.versions }
         ensures some { 2 ≤ result }
@@ -74,7 +74,7 @@ impl Schedule {
         self.versions
     }
 
-    /// The events, in order.
+    /// Returns the events, in order.
     pub fn events(&self) -> &[ScheduledEvent]
         ensures { result.now ≡ self.now.events }
     {
@@ -82,7 +82,7 @@ impl Schedule {
     }
 }
 
-/// How many desks the first of these lines says.
+/// Returns how many desks the first of these lines says.
 fn desks_in(lines: &[ScheduleLine]) -> usize
     ensures { result ≡ desks_in lines.now }
 {
@@ -92,7 +92,7 @@ fn desks_in(lines: &[ScheduleLine]) -> usize
     }
 }
 
-/// How many workers the second of these lines says.
+/// Returns how many workers the second of these lines says.
 fn workers_in(lines: &[ScheduleLine]) -> usize
     ensures { result ≡ workers_in lines.now }
 {
@@ -102,7 +102,7 @@ fn workers_in(lines: &[ScheduleLine]) -> usize
     }
 }
 
-/// How many keys of a page the third of these lines says.
+/// Returns how many keys of a page the third of these lines says.
 fn keys_in(lines: &[ScheduleLine]) -> usize
     ensures { result ≡ keys_in lines.now }
 {
@@ -112,7 +112,7 @@ fn keys_in(lines: &[ScheduleLine]) -> usize
     }
 }
 
-/// How many versions the fourth of these lines says; two where it says none.
+/// Returns how many versions the fourth of these lines says; two where it says none.
 fn versions_in(lines: &[ScheduleLine]) -> usize
     ensures { result ≡ versions_in lines.now }
 {
@@ -122,7 +122,7 @@ fn versions_in(lines: &[ScheduleLine]) -> usize
     }
 }
 
-/// The schedule that these lines say.
+/// Makes the schedule that these lines say.
 fn schedule_from(alloc: Global, lines: Vec<ScheduleLine>) -> Result<Schedule, AllocError>
     requires { IsSized (desks_in lines.items) (workers_in lines.items) (keys_in lines.items) (versions_in lines.items) }
     ensures { IfOk result (λ schedule. schedule ≡ schedule_from lines.items) }
@@ -146,20 +146,20 @@ fn schedule_from(alloc: Global, lines: Vec<ScheduleLine>) -> Result<Schedule, Al
     })
 }
 
-/// A law of the definitions: a text is read as a schedule exactly where its lines with words are those of that schedule, in
-/// order: `desks`, `workers` and `keys` with their numbers, `versions` with its number, where two need not be said, and its
-/// events. Any other text is at fault at the first line with which its lines no longer begin a schedule, or after its last line.
+/// A law of the definitions: a text is read as a schedule exactly where its lines with words are those of that schedule, in order. They are
+/// `desks`, `workers` and `keys` with their numbers, `versions` with its number, where two need not be said, and its events. Any other text
+/// is at fault at the first line with which its lines no longer begin a schedule, or after its last line.
 pub fn schedule_grammar_law()
     ensures grammar { ScheduleGrammar }
     ensures faults { ScheduleFaults }
 {}
 
-/// The schedule that the text is, over these views: `desks N` and `workers N`, each 1 to 16, `keys N`, 1 to 256, perhaps
-/// `versions N`, 2 to 4, which is 2 where there is no such line, and then the events, a line each. Lines of spaces and tabs
-/// alone are skipped. Numbers are at most 1,000,000. A `read` may name what is no view.
+/// Reads the schedule that the text is, over these views. Its lines are `desks N` and `workers N`, each 1 to 16, `keys N`, 1 to 256,
+/// perhaps `versions N`, 2 to 4, and then the events, a line each. There are 2 versions where no line says how many. Lines of spaces and
+/// tabs alone are skipped. Numbers are at most 1,000,000. A `read` may name what is no view.
 ///
-/// The fault is `Schedule` with the first line that may not stand where it does, counted from 1, blank ones included; where the
-/// text ends before its keys are said, that is the line after its last. An empty text is at fault at line 1, always.
+/// The fault is `Schedule` with the first line that may not stand where it does, counted from 1, blank ones included. Where the text ends
+/// before its keys are said, that is the line after its last. An empty text is at fault at line 1, always.
 pub fn read_schedule(alloc: Global, names: &Names, text: &[u8]) -> Result<Schedule, LoadFault>
     ensures ok { IfOk result (λ schedule. schedule_of names.now text.now ≡ Ok schedule) }
     ensures err { IfErr result (λ f. (f ≡ LoadFault.Memory) ⊎ (schedule_of names.now text.now ≡ Err f)) }

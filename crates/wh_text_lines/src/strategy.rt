@@ -1,4 +1,4 @@
-//! A strategy as text: an expression a line.
+//! Reads and writes a strategy as text: an expression a line.
 ghost use Rattle.std.specs.Prelude.{◌≡◌, ◌≢◌, ◌⊎◌, ◌++◌, [], Ok, Err, IfOk, IfErr, OnOk, OnErr};
 ghost use Rattle.wh_text_lines.specs.ReadsBack.{ReadsBack};
 ghost use Rattle.wh_text_lines.specs.StrategyGrammar.{StrategyGrammar};
@@ -67,9 +67,9 @@ impl Grammar for StrategyLines<'_> {
     }
 }
 
-/// The strategy that the text is, over these views: a line `comp V from U ..` or `inst V` for each expression, where
-/// lines of spaces and tabs alone are skipped. The fault is `Strategy` with the first line that is neither, counted from 1,
-/// blank ones included. Whether the list is correct is for `check` to judge. An empty text is an empty list, always.
+/// Reads the strategy that the text is, over these views: a line `comp V from U ..` or `inst V` for each expression. Lines of spaces and
+/// tabs alone are skipped. Whether the list is correct is for `check` to judge. An empty text is an empty list, always. The fault is
+/// `Strategy` with the first line that is neither, counted from 1, blank ones included.
 pub fn read_strategy(alloc: Global, names: &Names, text: &[u8]) -> Result<Strategy, LoadFault>
     ensures ok { IfOk result (λ strategy. strategy_of names.now text.now ≡ Ok strategy) }
     ensures err { IfErr result (λ f. (f ≡ LoadFault.Memory) ⊎ (strategy_of names.now text.now ≡ Err f)) }
@@ -79,7 +79,8 @@ pub fn read_strategy(alloc: Global, names: &Names, text: &[u8]) -> Result<Strate
     Ok(Strategy::new(list))
 }
 
-/// Appends the list as [`write_strategy`] does, but where memory fails a part of it may have been appended.
+/// Appends the list as it is written, a line for each expression. Where memory fails, a part of it may have been appended; an empty list
+/// takes none.
 pub(crate) fn append_strategy(
     out: &mut Vec<u8>,
     names: &Names,
@@ -95,8 +96,8 @@ pub(crate) fn append_strategy(
     Ok(())
 }
 
-/// Appends the list as it is written, a line for each expression. Where memory fails, nothing is appended; an empty list
-/// takes none. Takes O(n) for n bytes that are written.
+/// Appends the list as it is written, a line for each expression. Where memory fails, nothing is appended; an empty list takes none. Takes
+/// O(n) for n bytes that are written.
 pub fn write_strategy(
     out: &mut Vec<u8>,
     names: &Names,
@@ -116,8 +117,8 @@ pub fn reads_back_law()
     ensures { ReadsBack }
 {}
 
-/// A law of the definitions: a text is the strategy of the expressions that its lines with words say, in order, where each says
-/// one. Any other text is at fault at the first line with words that says none.
+/// A law of the definitions: a text is the strategy of the expressions that its lines with words say, in order, where each says one. Any
+/// other text is at fault at the first line with words that says none.
 pub fn strategy_grammar_law()
     ensures { StrategyGrammar }
 {}

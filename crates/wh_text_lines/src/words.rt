@@ -1,11 +1,11 @@
-//! The lines of a text, and the words of a line.
+//! Cuts a text into lines, and a line into its words.
 ghost use Rattle.std.specs.Prelude.{◌≡◌, ◌<◌, ◌∷◌, length, map, IfOk};
 ghost use Rattle.wh_text_lines.specs.Words.{is_word, lines_of, word_at, words_of};
 
 use std::alloc::{AllocError, Global};
 use wh_text::line::{self, is_blank};
 
-/// The first line without its LF, and the text below it.
+/// Returns the first line without its LF, and the text below it.
 pub(crate) fn first_line(text: &[u8]) -> (&[u8], &[u8])
     requires { 0 < length text.now }
     ensures lines { lines_of text.now ≡ result.0.now ∷ lines_of result.1.now }
@@ -15,15 +15,15 @@ pub(crate) fn first_line(text: &[u8]) -> (&[u8], &[u8])
     (line::without_lf(whole), below)
 }
 
-/// Whether the piece between two blanks is a word: whether it has a byte.
+/// Returns whether the piece between two blanks is a word: whether it has a byte.
 fn is_word(piece: &[u8]) -> bool
     ensures { result ≡ is_word piece.now }
 {
     !piece.is_empty()
 }
 
-/// The words of a line, which spaces and tabs part. No other byte parts words, so a CR belongs to one.
-pub(crate) fn words_of(alloc: Global, line: &[u8]) -> Result<Vec<&[u8]>, AllocError>
+/// Returns the words of a line, which spaces and tabs part. No other byte parts words, so a CR belongs to one.
+pub fn words_of(alloc: Global, line: &[u8]) -> Result<Vec<&[u8]>, AllocError>
     ensures { IfOk result (λ words. map (λ word. word.now) words.items ≡ words_of line.now) }
 {
     line.split(|byte| is_blank(*byte))
@@ -31,7 +31,7 @@ pub(crate) fn words_of(alloc: Global, line: &[u8]) -> Result<Vec<&[u8]>, AllocEr
         .collect(alloc)
 }
 
-/// The word at this place, from 0; empty where there is none.
+/// Returns the word at this place, from 0; empty where there is none.
 pub(crate) fn word_at<'a>(words: &[&'a [u8]], place: usize) -> &'a [u8]
     ensures { result.now ≡ word_at (map (λ word. word.now) words.now) place }
 {

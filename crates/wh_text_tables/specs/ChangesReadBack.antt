@@ -11,7 +11,8 @@ use Rattle.wh_text_tables.specs.TableText.{text_gives}
 use Rattle.wh_text_tables.specs.TableWritten.{table_text}
 use Rattle.wh_text_tables.specs.declared.table.header.Content.TheVariants.{Changes}
 
--- changes of these columns and texts, a bag of any sign: names and texts are UTF-8, no text stands twice, each count is an i64, and a row that counts has in each column what that column can hold, and no further cell
+-- Changes of these columns and texts, a bag of any sign. Names and texts are UTF-8, no text stands twice, and each count is an i64. A row
+-- that counts has in each column what that column can hold, and no further cell
 pub record AreChangesOver (columns : List NamedKind) (texts : List (List ℕ)) (bag : Bag) : Type 0 where
   pub names : All IsUtf8 (names_of columns)
   pub texts_distinct : IsDistinct bytes_eq texts
@@ -19,7 +20,7 @@ pub record AreChangesOver (columns : List NamedKind) (texts : List (List ℕ)) (
   pub counts : (row : Row) → FitsSigned w64 (count bag row)
   pub rows : (row : Row) → count bag row ≢ pos 0 → AllZip (IsCell texts) (kinds_of columns) row
 
--- changes that were written as a table is are read back as they were, and so is the dictionary
+-- changes that were written as a table is are read back as they were, and leave the texts as they are
 abbrev pub ChangesReadBack : Type 0
 ChangesReadBack =
     (columns : List NamedKind) (texts : List (List ℕ)) (bag : Bag) → AreChangesOver columns texts bag →

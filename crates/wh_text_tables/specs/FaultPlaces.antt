@@ -1,4 +1,4 @@
--- What is wrong with the records of a CSV part, each fault by itself and at its place: the number of its record, counted from 1
+-- What is wrong with the records of a CSV part, each fault by itself and at its place. A place is the number of the record, counted from 1
 -- with the header, and which of the record's judgements finds it.
 use Rattle.std.specs.Prelude.{◌≡◌, ℕ, ◌+◌, not, List, [], ◌∷◌, length, take, slice_get, Option, Some, is_some}
 use Rattle.wh_text.specs.FirstFault.{Finds, Place, fault_if}
@@ -10,7 +10,8 @@ use Rattle.wh_text_tables.specs.Records.{form_fault}
 abbrev pub Cells : Type 0
 Cells = List (List ℕ)
 
--- what the records of one sort of parts are: the kind that a header tells, where its cells are one; and what is judged of the cells of a record below it, which has this number and stands below these rows, one judgement after another
+-- What the records of one sort of parts are: the kind that a header tells, where its cells are one, and what is judged of a record below
+-- it. The record has this number and stands below these rows, and its judgements come one after another
 pub record Judging (K : Type 0) : Type 0 where
   pub kind_of : Cells → Option K
   pub judged : K → List Cells → ℕ → Cells → List (Option LoadFault)

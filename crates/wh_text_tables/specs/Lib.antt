@@ -1,4 +1,5 @@
 pub mod ChangesReadBack
+pub mod Chunks
 pub mod FaultPlaces
 pub mod Part
 pub mod Records

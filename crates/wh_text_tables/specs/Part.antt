@@ -1,11 +1,13 @@
--- A CSV part: its header says what it is, each record below it has a first fault or a value, and the values are folded from the first to the last.
+-- A CSV part: its header says what it is, and each record below it has a first fault or a value. The values are folded from the first to
+-- the last.
 use Rattle.std.specs.Prelude.{ℕ, ◌+◌, List, [], ◌∷◌, length, Option, ok_or, Result, Ok, Err}
 pub use Rattle.wh_text.specs.ValueOrFault.{◌>>=◌, or_fault}
 use Rattle.wh_text.specs.declared.fault.LoadFault.{LoadFault}
 use Rattle.wh_text.specs.declared.fault.LoadFault.TheVariants.{Header}
 use Rattle.wh_text_tables.specs.Records.{form_fault, records_of}
 
--- what parts of one sort say: the kind that the cells of a header tell, where they are a header; and what the cells of a record of this number make of a state below a header of that kind: the state after it, or what is wrong with them
+-- What parts of one sort say. It is the kind that the cells of a header tell, where they are a header. Below a header of that kind, the
+-- cells of a record of this number make of a state the state after it, or something is wrong with them
 pub record Scheme (K S : Type 0) : Type 0 where
   pub kind_of : List (List ℕ) → Option K
   pub take : K → S → ℕ → List (List ℕ) → Result S LoadFault

@@ -12,7 +12,8 @@ infixl 10 ◌>>=◌
 abbrev pub ◌>>=◌ : {A B : Type 0} → Option A → (A → Option B) → Option B
 o >>= f = option_and_then f o
 
--- the weight of a row as a number: 1 where there is no column of weights, else what its fifth cell writes, if that is a whole number
+-- the weight of a row as a number: 1 where there is no column of weights, else the whole number that its fifth cell writes, if it writes
+-- one
 abbrev pub weight_of : Columns → List (List ℕ) → Option ℤ
 weight_of of_columns.Plain row = Some (pos 1)
 weight_of of_columns.Weighted row = whole_number (cell row 4)

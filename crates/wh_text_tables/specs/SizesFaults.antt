@@ -40,7 +40,8 @@ weighs_no_number columns cells = not (is_some (weight_of columns cells))
 abbrev pub weighs_out_of_range : Columns → Cells → Bool
 weighs_out_of_range columns cells = not (is_some (option_and_then weight_in (weight_of columns cells)))
 
--- what is judged of a row: no view has the name, a row above has it; then pre, post, change and the weight, each as a number; then the range of pre, post and change; then how far pre and post are apart; then the range of the weight
+-- What is judged of a row: no view has the name, a row above has it; then pre, post, change and the weight, each as a number. Then come the
+-- range of pre, post and change, how far pre and post are apart, and the range of the weight
 abbrev pub size_judged : List (List ℕ) → Columns → List Cells → ℕ → Cells → List (Option LoadFault)
 size_judged names columns above number cells =
     fault_if (not (is_named names (view_in cells))) (Sizes (view_in cells))

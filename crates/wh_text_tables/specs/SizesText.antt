@@ -21,7 +21,8 @@ abbrev pub weight_heading : Columns → List (List ℕ)
 weight_heading of_columns.Plain = []
 weight_heading of_columns.Weighted = codes "weight" ∷ []
 
--- the cells of the header: a view's name, its rows before and after a night, and how many of them change; and what a row weighs, where there is such a column
+-- The cells of the header: a view's name, its rows before and after a night, and how many of them change. What a row weighs comes last,
+-- where there is such a column
 abbrev pub sizes_header : Columns → List (List ℕ)
 sizes_header columns = codes "view" ∷ codes "pre" ∷ codes "post" ∷ codes "change" ∷ weight_heading columns
 
@@ -58,7 +59,7 @@ placed names columns given number row = do
 
 -- All rows.
 
--- parts of sizes of the views of these names
+-- the scheme of parts that have sizes of the views of these names
 abbrev pub sizes_scheme : List (List ℕ) → Scheme Columns (List (Option SizeRow))
 sizes_scheme names = record { kind_of = columns_of; take = placed names }
 

@@ -15,17 +15,17 @@ use Rattle.wh_text_tables.specs.TableText.{count_of, counting_of, row_cells, tex
 use Rattle.wh_text_tables.specs.declared.table.header.Content.{Content}
 use Rattle.wh_text_tables.specs.declared.table.header.Counting.{Counting}
 
--- both are numbers, and the same
+-- both are numbers, and one number
 abbrev pub are_one_number : Option ℤ → Option ℤ → Bool
 are_one_number (Some first) (Some second) = is_eq (int_cmp first second)
 are_one_number _ _ = false
 
--- two cells of a kind write the same: the same whole number, or the same text
+-- two cells of a kind write one and the same value: a whole number, or a text
 abbrev pub write_same_cell : Kind → List ℕ → List ℕ → Bool
 write_same_cell of_kind.Int first second = are_one_number (whole_number first) (whole_number second)
 write_same_cell of_kind.Text first second = bytes_eq first second
 
--- the cells of two records write the same row, one of each kind
+-- the cells of two records write one row, with a cell of each kind
 unfoldable pub write_same_row : List Kind → Cells → Cells → Bool
 write_same_row [] first second = true
 write_same_row (kind ∷ kinds) (cell ∷ first) (other ∷ second) = write_same_cell kind cell other && write_same_row kinds first second
@@ -57,7 +57,7 @@ entry_judged kinds count above number cells =
     fault_if (not (is_some (count_of count cells))) (Number number)
     ∷ (cells_judged kinds number (row_cells count cells) ++ fault_if (not (is_i64 (total_of count kinds cells (above ++ cells ∷ [])))) (Number number) ∷ [])
 
--- the records of a table or of changes, over these columns
+-- what the records of a table or of changes are judged by, over these columns
 abbrev pub entry_judging : Content → List NamedKind → Judging Counting
 entry_judging content columns = record { kind_of = counting_of content (names_of columns); judged = entry_judged (kinds_of columns) }
 

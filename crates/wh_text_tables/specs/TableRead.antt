@@ -14,7 +14,8 @@ use Rattle.wh_text_tables.specs.declared.table.rows.RowsRead.{RowsRead}
 abbrev pub table_gives : List NamedKind → List (List ℕ) → List ℕ → Result (Bag × List (List ℕ)) LoadFault
 table_gives columns texts text = text_gives content.Table columns texts text
 
--- the same of the text of changes
+-- what the text of changes gives, over these columns, to a dictionary of these texts: the bag and the dictionary after it, or the first
+-- fault
 abbrev pub changes_give : List NamedKind → List (List ℕ) → List ℕ → Result (Bag × List (List ℕ)) LoadFault
 changes_give columns texts text = text_gives content.Changes columns texts text
 

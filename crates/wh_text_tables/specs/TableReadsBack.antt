@@ -18,7 +18,8 @@ abbrev pub IsCell : List (List ℕ) → Kind → ℤ → Type 0
 IsCell texts of_kind.Int number = FitsSigned w64 number
 IsCell texts of_kind.Text number = IsSome (text_of_cell texts number)
 
--- a table of these columns and texts: names and texts are UTF-8, no text stands twice, no row counts below zero or past i64, and a row that counts has in each column what that column can hold, and no further cell
+-- A table of these columns and texts. Names and texts are UTF-8, no text stands twice, and no row counts below zero or past i64. A row that
+-- counts has in each column what that column can hold, and no further cell
 pub record IsTableOver (columns : List NamedKind) (texts : List (List ℕ)) (bag : Bag) : Type 0 where
   pub names : All IsUtf8 (names_of columns)
   pub texts_distinct : IsDistinct bytes_eq texts
@@ -27,7 +28,7 @@ pub record IsTableOver (columns : List NamedKind) (texts : List (List ℕ)) (bag
   pub counts : (row : Row) → FitsSigned w64 (count bag row)
   pub rows : (row : Row) → count bag row ≢ pos 0 → AllZip (IsCell texts) (kinds_of columns) row
 
--- a table that was written is read back as it was, and so is the dictionary
+-- a table that was written is read back as it was, and leaves the texts as they are
 abbrev pub TableReadsBack : Type 0
 TableReadsBack =
     (columns : List NamedKind) (texts : List (List ℕ)) (bag : Bag) → IsTableOver columns texts bag →

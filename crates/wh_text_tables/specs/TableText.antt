@@ -28,7 +28,8 @@ use Rattle.wh_text_tables.specs.declared.table.header.Counting.TheVariants as of
 abbrev pub counted_header : List (List ℕ) → List (List ℕ)
 counted_header names = codes "#" ∷ names
 
--- how records say the counts of their rows, by the header that they stand under: the header of a table has the names of the columns, with or without `#` before them, and that of changes always has `#`
+-- How records say the counts of their rows, by the header that they stand under. The header of a table has the names of the columns, with
+-- or without `#` before them, and that of changes always has `#`
 abbrev pub counting_of : Content → List (List ℕ) → List (List ℕ) → Option Counting
 counting_of of_content.Table names header =
     if pointwise bytes_eq header names then Some of_counting.Once
@@ -56,7 +57,8 @@ non_zero (pos zero) = None
 non_zero (pos (suc n)) = Some (pos (suc n))
 non_zero (negsuc n) = Some (negsuc n)
 
--- how often a record counts its row, where its count is allowed: once where it tells no count, else as its first cell tells, above zero in a table and not zero in changes
+-- How often a record counts its row, where its count is allowed. It is once where the record tells no count, else as its first cell tells,
+-- above zero in a table and not zero in changes
 abbrev pub count_of : Counting → List (List ℕ) → Option ℤ
 count_of of_counting.Once cells = Some (pos 1)
 count_of of_counting.Positive cells = option_and_then positive (whole_number (cell cells 0))
@@ -103,17 +105,17 @@ pub record EntriesRead : Type 0 where
 abbrev pub texts_after : Counting → List Kind → List (List ℕ) → List (List ℕ) → List (List ℕ)
 texts_after count kinds texts cells = with_texts texts (texts_in_row kinds (row_cells count cells))
 
--- the same with the texts and the entry of one record more
+-- what was read so far, with the texts and the entry of one record more
 abbrev pub with_entry : EntriesRead → List (List ℕ) → Row × ℤ → EntriesRead
 with_entry read texts entry = record { texts = texts; entries = read.entries ++ entry ∷ [] }
 
--- the same, where a record that brings the sum of its row out of i64 has a fault too
+-- what was read so far, with one record more; a record that brings the sum of its row out of i64 has a fault
 abbrev pub added : List Kind → Counting → EntriesRead → ℕ → List (List ℕ) → Result EntriesRead LoadFault
 added kinds count read number cells = do
   entry ← ok_or (entry_of count (texts_after count kinds read.texts cells) kinds cells) (Number number)
   if is_i64 (running_sum read.entries entry) then Ok (with_entry read (texts_after count kinds read.texts cells) entry) else Err (Number number)
 
--- the same with the sums of equal rows
+-- the scheme of a table or of changes, where a record that brings the sum of its row out of i64 has a fault
 abbrev pub table_scheme : Content → List NamedKind → Scheme Counting EntriesRead
 table_scheme content columns = record { kind_of = counting_of content (names_of columns); take = added (kinds_of columns) }
 

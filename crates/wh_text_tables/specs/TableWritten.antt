@@ -11,7 +11,7 @@ use Rattle.wh_text.specs.declared.columns.Kind.{Kind}
 use Rattle.wh_text.specs.declared.columns.Kind.TheVariants as of_kind
 use Rattle.wh_text_tables.specs.TableText.{counted_header}
 
--- a cell as it is written: a whole number in decimal, a text as itself; nothing for a number that no text has
+-- a cell as it is written: a whole number in decimal, a text as itself, and nothing for a number that no text has
 abbrev pub cell_text : List (List ℕ) → Kind → ℤ → List ℕ
 cell_text texts of_kind.Int number = signed_decimal number
 cell_text texts of_kind.Text number = unwrap_or (text_of_cell texts number) []
@@ -30,6 +30,7 @@ record_of texts kinds entry = signed_decimal entry.1 ∷ cell_texts texts kinds 
 abbrev pub table_records : List NamedKind → List (List ℕ) → Bag → List (List (List ℕ))
 table_records columns texts bag = counted_header (names_of columns) ∷ map (record_of texts (kinds_of columns)) (written bag)
 
--- the text of a table: each record on a line that LF ends, its fields parted by commas and in quotes where they have a comma, a quote, CR or LF
+-- The text of a table: each record on a line that LF ends, its fields parted by commas. Fields are in quotes where they have a comma, a
+-- quote, CR or LF
 abbrev pub table_text : List NamedKind → List (List ℕ) → Bag → List ℕ
 table_text columns texts bag = flat_map (row_text default_writer) (table_records columns texts bag)

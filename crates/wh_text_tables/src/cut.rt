@@ -1,7 +1,7 @@
-//! Where the text of a CSV part can be cut, so that its records are those of both sides.
+//! Finds where the text of a CSV part can be cut, so that its records are those of both sides.
 //!
-//! A line end outside of quotes ends a record. In a text without quotes each LF is one; in others the bytes are gone through as the
-//! `csv` crate goes through them.
+//! A line end outside of quotes ends a record. In a text without quotes each LF is one; in others the bytes are gone through as the `csv`
+//! crate goes through them.
 
 ghost use Rattle.std.specs.Prelude.{◌≡◌, ◌==◌, IfSome, get_or, true};
 ghost use Rattle.csv.specs.Machine.{in_field, start_field, start_record, step};
@@ -142,7 +142,7 @@ fn is_mark(first: u8, second: u8, third: u8) -> bool
     first == 0xEF && second == 0xBB && third == 0xBF
 }
 
-/// The text without a byte order mark at its start.
+/// Returns the text without a byte order mark at its start.
 pub(crate) fn without_mark(text: &[u8]) -> &[u8]
     ensures { result.now ≡ strip_bom text.now }
 {
@@ -156,7 +156,8 @@ pub(crate) fn without_mark(text: &[u8]) -> &[u8]
     }
 }
 
-/// A place behind this one where a record ends and the text can be cut. None where there is no such place, and at a byte order
+/// Finds a place behind this one where a record ends and the text can be cut. It is `None` where there is no such place, and at a byte
+/// order
 /// mark, which would be taken off.
 pub(crate) fn record_end(text: &[u8], from: usize) -> Option<usize>
     ensures { IfSome result (λ place. IsCut text.now place) }

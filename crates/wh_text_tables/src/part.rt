@@ -1,4 +1,4 @@
-//! A CSV part, read by the scheme of its sort: its header, and then its records one by one.
+//! Reads a CSV part by the scheme of its sort: its header, and then its records one by one.
 
 ghost use Rattle.std.specs.Prelude.{◌≡◌, ◌⊎◌, ◌+◌, ◌^◌, ◌≤◌, ℕ, length, IfOk, IfErr, OnOk, OnErr, Ok, Err};
 ghost use Rattle.std.specs.Result.{result_err};
@@ -7,7 +7,7 @@ ghost use Rattle.wh_text_tables.specs.Part.{Scheme, below_header, part_of};
 ghost use Rattle.wh_text_tables.specs.Inner.Part.{IsReadTo, IsWidthOf, TakenTo};
 ghost use Rattle.wh_text_tables.specs.Records.{records_of};
 
-use crate::records::Records;
+use crate::records::CsvRecords;
 use csv::StringRecord;
 use std::alloc::Global;
 use wh_text::LoadFault;
@@ -51,10 +51,10 @@ pub(crate) trait PartReader {
         ensures kept { OnErr result (seen state.new ≡ seen state.old) };
 }
 
-/// What the first record tells, the header.
+/// Returns what the first record tells, the header.
 pub(crate) fn read_kind<R: PartReader>(
     reader: &R,
-    records: &mut Records<'_>,
+    records: &mut CsvRecords<'_>,
     cells: &mut StringRecord,
 ) -> Result<R::Kind, LoadFault>
     requires { records.old.given ≡ 0 }
@@ -76,7 +76,7 @@ pub(crate) fn read_rows<R: PartReader>(
     reader: &R,
     kind: R::Kind,
     width: usize,
-    records: &mut Records<'_>,
+    records: &mut CsvRecords<'_>,
     cells: &mut StringRecord,
     state: &mut R::State,
 ) -> Result<(), LoadFault>
@@ -105,7 +105,7 @@ pub(crate) fn read_part<R: PartReader>(
     ensures err { IfErr result (λ f. (f ≡ LoadFault.Memory) ⊎ (part_of (R.scheme reader.now) (R.seen state.old) text.now ≡ Err f)) }
     ensures ready { (number : ℕ) × R.is_ready reader.now (R.seen state.new) number × (number ≤ 2 ^ 64) }
 {
-    let mut records = Records::new(alloc, text);
+    let mut records = CsvRecords::new(alloc, text);
     let mut cells = StringRecord::new(alloc);
     let kind = read_kind(reader, &mut records, &mut cells)?;
     let width = cells.len();

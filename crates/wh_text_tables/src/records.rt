@@ -1,4 +1,4 @@
-//! The records of a CSV part, one by one, with what all readers of such parts ask of them.
+//! Reads the records of a CSV part one by one, with what all readers of such parts ask of them.
 
 ghost use Rattle.std.specs.Prelude.{◌≡◌, ◌⊎◌, ◌+◌, ◌≤◌, ◌∷◌, [], IfOk, IfErr, IfSome, FitsSigned, length, map, None, Some, Ok, true};
 ghost use Rattle.std.specs.Cmp.Lexicographic.{pointwise};
@@ -18,13 +18,13 @@ use wh_text::LoadFault;
 
 /// The records of a part, read one by one. They are numbered from 1, the header being the first.
 #[derive(Drop)]
-pub(crate) struct Records<'a> {
+pub(crate) struct CsvRecords<'a> {
     reader: Reader<&'a [u8]>,
     given: usize,
     ended: bool,
 }
 
-impl<'a> Model for Records<'a> {
+impl<'a> Model for CsvRecords<'a> {
     ghost use Rattle.wh_text.specs.WholeNumber.{whole_number};
     ghost use Rattle.wh_text_tables.specs.Unread.{Unread, left_of};
     ghost use Rattle.wh_text_tables.specs.Inner.Unread.{IsCounted};
@@ -36,23 +36,23 @@ impl<'a> Model for Records<'a> {
     ghost invariant = { λ r. IsCounted r.ended r.reader r.given };
 }
 
-impl<'a> Records<'a> {
-    /// The records of this text, none of them given yet.
-    pub(crate) fn new(alloc: Global, text: &'a [u8]) -> Records<'a>
+impl<'a> CsvRecords<'a> {
+    /// Returns the records of this text, none of them given yet.
+    pub(crate) fn new(alloc: Global, text: &'a [u8]) -> CsvRecords<'a>
         ensures { result ≡ record { given = 0; left = records_of text.now } }
     {
-        Records::behind(alloc, 0, text)
+        CsvRecords::behind(alloc, 0, text)
     }
 
-    /// The records of this text that stands below a header, none of them given yet.
-    pub(crate) fn below_header(alloc: Global, text: &'a [u8]) -> Records<'a>
+    /// Returns the records of this text that stands below a header, none of them given yet.
+    pub(crate) fn below_header(alloc: Global, text: &'a [u8]) -> CsvRecords<'a>
         ensures { result ≡ record { given = 1; left = records_of text.now } }
     {
-        Records::behind(alloc, 1, text)
+        CsvRecords::behind(alloc, 1, text)
     }
 
     /// The records of this text behind so many that were given.
-    fn behind(alloc: Global, given: usize, text: &'a [u8]) -> Records<'a>
+    fn behind(alloc: Global, given: usize, text: &'a [u8]) -> CsvRecords<'a>
         requires { given ≤ 1 }
         ensures { result ≡ record { given = given; left = records_of text.now } }
     {
@@ -60,14 +60,14 @@ impl<'a> Records<'a> {
             .has_headers(false)
             .flexible(true)
             .from_reader(alloc, text);
-        Records {
+        CsvRecords {
             reader,
             given,
             ended: false,
         }
     }
 
-    /// The number of the record that was given last.
+    /// Returns the number of the record that was given last.
     pub(crate) fn number(&self) -> usize
         ensures { result ≡ self.now.given }
     {
@@ -99,7 +99,7 @@ impl<'a> Records<'a> {
         }
     }
 
-    /// The same, where the record has to have this many cells: as many as the header.
+    /// Reads the next record into `cells`, which has to have as many cells as the header, `width`; gives whether there was one.
     pub(crate) fn read_row(
         &mut self,
         width: usize,
@@ -130,14 +130,14 @@ fn read_fault(error: csv::Error, number: usize) -> LoadFault
     }
 }
 
-/// The cell at this place, the first at 0; empty where there is none.
+/// Returns the cell at this place, the first at 0; empty where there is none.
 pub(crate) fn cell(cells: &StringRecord, place: usize) -> &str
     ensures { result.now ≡ cell (fields_of cells.now) place }
 {
     cells.get(place).unwrap_or("")
 }
 
-/// Whether these are the cells of the record.
+/// Tells whether these are the cells of the record.
 pub(crate) fn are_cells(cells: &StringRecord, words: &[&str]) -> bool
     ensures { result ≡ pointwise bytes_eq (fields_of cells.now) (map (λ word. word.now) words.now) }
 {
@@ -170,7 +170,7 @@ fn plain_number(text: &[u8]) -> Option<i64>
     i64::try_from(number).ok()
 }
 
-/// The whole number that a cell writes, if it is one: a sign or none and one or more digits, within i64.
+/// Returns the whole number that a cell writes, if it is one: a sign or none and one or more digits, within i64.
 pub(crate) fn whole_number(text: &str) -> Option<i64>
     ensures value { result ≡ whole_number text.now }
     ensures fits { IfSome result (λ number. FitsSigned w64 number) }

@@ -1,5 +1,5 @@
-//! The sizes of the views, from a CSV part: a header, and a row of each view, in any order. What a row weighs stands in a
-//! fifth column, or is 1 where there is none.
+//! Reads the sizes of the views from a CSV part: a header, and a row of each view, in any order.
+//! What a row weighs stands in a fifth column, or is 1 where there is none.
 
 ghost use Rattle.std.specs.Prelude.{◌≡◌, ◌⊎◌, ◌<◌, List, length, replicate, IfOk, IfErr, IfSome, FitsSigned, OnOk, OnErr, Option, Ok, Err, Some, None, vec_len};
 ghost use Rattle.std.specs.Int.{w64};
@@ -224,10 +224,10 @@ fn covered(
     Ok(rows)
 }
 
-/// The sizes of the shape's views, by their numbers, or the text's first fault, record by record: `Csv` (the record's
-/// form), then `Header`, or of a row `Sizes` (no view's name, or a second row of a view), `Number` (its weight's too),
-/// `Sizes` (out of range, pre and post too far apart, or a weight that is not 1 to 1,000); after the last record `Sizes` of
-/// the first view without a row.
+/// Reads the sizes of the shape's views, by their numbers.
+/// Fails with the first fault, record by record: `Csv` (the record's form), then `Header`. Of a row it is `Sizes` (no view's name, or a
+/// second row of a view), then `Number` (its weight's too). Then comes `Sizes` again (out of range, pre and post too far apart, or a weight
+/// that is not 1 to 1,000). After the last record it is `Sizes` of the first view without a row. Memory may come at any point.
 #[tactic(auto, unfolding(crate::specs::SizesText::sizes_of_text))]
 pub fn read_sizes(alloc: Global, shape: &Shape, text: &[u8]) -> Result<Sizes, LoadFault>
     ensures sizes { IfOk result (λ sizes. sizes_of_text shape.now.names text.now ≡ Ok sizes) }
@@ -243,9 +243,9 @@ pub fn read_sizes(alloc: Global, shape: &Shape, text: &[u8]) -> Result<Sizes, Lo
     }
 }
 
-/// A law of the definitions: sizes that are written as a header and a record for each view, in the order of their numbers,
-/// are read back as they were: with a column of weights, and without it where each weight is 1. It asks for distinct names in
-/// UTF-8, as a shape has, and for sizes within their limits.
+/// A law of the definitions: sizes that are written as a header and a record for each view, in the order of their numbers, are read back as
+/// they were. This holds with a column of weights, and without it where each weight is 1.
+/// It asks for distinct names in UTF-8, as a shape has, and for sizes within their limits.
 pub fn sizes_read_back_law()
     ensures { SizesReadBack }
 {}

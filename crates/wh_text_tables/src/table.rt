@@ -1,4 +1,4 @@
-//! Tables and changes, from CSV parts: a header, and a record for each row with its count.
+//! Reads tables and changes from CSV parts: a header, and a record for each row with its count.
 ghost use Rattle.std.specs.Prelude.{◌≡◌, ◌⊎◌, ◌+◌, ◌<◌, ◌^◌, length, [], IfOk, IfErr, OnOk, OnErr, Ok, Err, None};
 ghost use Rattle.std.specs.Result.{result_err};
 ghost use Rattle.wh_row.specs.Bag.{HasWidth, IsTable, bag_of};
@@ -119,13 +119,13 @@ fn read_text<R: Threads + Sync>(
     }
 }
 
-/// The table of these columns that the text writes: a header of the columns' names, with or without `#` before them, and
-/// a record for each row, where `#` stands with a count above zero first. Equal rows add up. A text cell is its number in
-/// the dictionary, which gets new texts record by record, each from left to right.
+/// Reads the table of these columns that the text writes: a header of the columns' names, with or without `#` before them, and a record for
+/// each row. Where the header has `#`, a count above zero stands first. Equal rows add up. A text cell is its number in the dictionary,
+/// which gets new texts record by record, each from left to right.
 ///
-/// The first fault, record by record, the header being record 1: `Csv` (its length or UTF-8), `Header`, `Number` (a cell
-/// of the wrong form, a count not allowed, or equal rows whose sum leaves i64 here). After an error the dictionary is as
-/// before.
+/// Fails with the first fault, record by record, the header being record 1: `Csv` (its length or UTF-8), `Header`, then `Number`. The last
+/// is of a cell of the wrong form, a count that is not allowed, or equal rows whose sum leaves i64 here. Memory may come at any point.
+/// After an error the dictionary is as before.
 pub fn read_table<R: Threads + Sync>(
     budget: &ThreadBudget<'_, R>,
     columns: &[Column],
@@ -141,8 +141,10 @@ pub fn read_table<R: Threads + Sync>(
     read_text(budget, Content::Table, columns, text, dict)
 }
 
-/// The changes to a table of these columns that the text writes: as [`read_table`], but the header always has `#`, and a
-/// count is any number but zero, below zero for rows that leave. A row whose counts cancel is not among the changes.
+/// Reads the changes to a table of these columns that the text writes: a header of `#` and the columns' names, and a record for each row,
+/// behind its count. A count is any number but zero, below zero for rows that leave. Equal rows add up, and a row whose counts cancel is
+/// not among the changes. A text cell is its number in the dictionary, which gets new texts record by record.
+/// Fails as [`read_table`] does. After an error the dictionary is as before.
 pub fn read_changes<R: Threads + Sync>(
     budget: &ThreadBudget<'_, R>,
     columns: &[Column],
@@ -157,15 +159,16 @@ pub fn read_changes<R: Threads + Sync>(
     read_text(budget, Content::Changes, columns, text, dict)
 }
 
-/// A law of the definitions: a table that was written is read back as it was, and leaves the dictionary as it is. It asks
-/// that the columns' names are UTF-8, as those that are read of a catalogue are.
+/// A law of the definitions: a table that was written is read back as it was, and leaves the dictionary as it is.
+/// It asks that the columns' names are UTF-8, as those that are read of a catalogue are.
 pub fn table_reads_back_law()
     ensures back { TableReadsBack }
     ensures names { NamesAreText }
 {}
 
-/// A law of the definitions: changes that were written, as [`write_table`] writes a bag of any sign, are read back as they
-/// were, and leave the dictionary as it is. It asks what [`table_reads_back_law`] asks, but for the sign.
+/// A law of the definitions: changes that were written, as [`write_table`] writes a bag of any sign, are read back as they were, and leave
+/// the dictionary as it is.
+/// It asks what [`table_reads_back_law`] asks, but for the sign.
 pub fn changes_read_back_law()
     ensures { ChangesReadBack }
 {}

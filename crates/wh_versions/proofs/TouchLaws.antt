@@ -4,7 +4,7 @@ use Rattle.std.specs.Prelude.{◌||◌, is_some}
 use Rattle.std.specs.List.Sorted.{IsStrictlySortedBy}
 use Rattle.wh_pieces.specs.Row.{Row, is_row}
 use Rattle.wh_pieces.specs.Place.{AreRisingRows}
-use Rattle.wh_pieces.specs.Pieces.{found, with_entry, without_entry}
+use Rattle.wh_pieces.specs.Pieces.{found, with_entry, without_entry, remade}
 use Rattle.wh_pieces.proofs.RowLaws.{same_row, itself}
 use Rattle.wh_pieces.proofs.BringLaws.{found-with, found-without, none_after}
 use Rattle.std.specs.Global.{Vec}
@@ -40,19 +40,19 @@ module _ (f : Option Pairs → Option Pairs) (row : Row) (old : List (Row × Pai
 
 -- what one search makes of the pairs of a row that is there
 abbrev MadeOf : (Pairs → Pairs) → Row → List (Row × Pairs) → List (Row × Pairs) → Type 0
-MadeOf made row old new = (ps : Pairs) → found row old ≡ Some ps → (v : Pairs) × (v ≡ made ps) × (new ≡ with_entry old row v)
+MadeOf made row old new = (ps : Pairs) → found row old ≡ Some ps → (o : Option Pairs) × (o ≡ Some (made ps)) × (new ≡ remade old row o)
 
 pub made_there : (made : Pairs → Pairs) (row : Row) (old new : List (Row × Pairs)) → found row old ≢ None → MadeOf made row old new → (q : Row) → found q new ≡ cond (is_row q row) (Some (made (pairs_in (found q old)))) (found q old)
 made_there made row old new some there = elim (found row old) as (λ o. found row old ≡ o → (q : Row) → found q new ≡ cond (is_row q row) (Some (made (pairs_in (found q old)))) (found q old)) [
   | None ↦ λ e. absurd (some e)
-  | Some ps ↦ λ e. let t = there ps e in changed (λ o. Some (made (pairs_in o))) row old (Some ps) e new t.0 (ap Some (sym t.1)) t.2
+  | Some ps ↦ λ e. let t = there ps e in changed (λ o. Some (made (pairs_in o))) row old (Some ps) e new (made ps) refl (t.2 ∙ ap (remade old row) t.1)
 ] refl
 
 -- a row is added, unless it is there
 pub added_once : (row : Row) (old new : List (Row × Pairs)) (none : Pairs) → none ≡ [] → (found row old ≡ None → new ≡ with_entry old row none) → MadeOf (λ ps. ps) row old new → (q : Row) → found q new ≡ added (is_row q row) (found q old)
 added_once row old new none is new_one there = elim (found row old) as (λ o. found row old ≡ o → (q : Row) → found q new ≡ added (is_row q row) (found q old)) [
   | None ↦ λ e. changed (λ o. Some (pairs_in o)) row old None e new none (ap Some (sym is)) (new_one e)
-  | Some ps ↦ λ e. let t = there ps e in changed (λ o. Some (pairs_in o)) row old (Some ps) e new t.0 (ap Some (sym t.1)) t.2
+  | Some ps ↦ λ e. let t = there ps e in changed (λ o. Some (pairs_in o)) row old (Some ps) e new ps refl (t.2 ∙ ap (remade old row) t.1)
 ] refl
 
 pub in_with : (set : Touched) (row : Row) (u : Unit {0}) → is_in row (with_entry set row u) ≡ true

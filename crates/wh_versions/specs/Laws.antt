@@ -1,4 +1,4 @@
--- What holds of all views' rows, whatever a night does to them. Numbers of pairs fall, and there are at most n.
+-- Laws of all views' rows, whatever a night does to them. Numbers of pairs fall, and there are at most n.
 use Rattle.std.specs.Prelude.{◌≡◌, ℕ, suc, ◌+◌, ◌-◌, ◌<◌, ◌≤◌, ℤ, ◌↔◌, Some, None, IsTrue}
 use Rattle.wh_pieces.specs.Place.{AreRisingRows}
 use Rattle.wh_row.specs.Bag.{count, written as written_out}
@@ -8,7 +8,8 @@ use Rattle.wh_versions.specs.Tables.{ViewRows, AreInForm, slots, count_at, table
 use Rattle.wh_versions.specs.Pages.{shown_at}
 use Rattle.wh_versions.specs.Rows.{Pairs, ArePairs, read, with_pair, without_pair, IsUnread, is_unread}
 
--- a count that night m writes changes what no session reads of the n - 1 versions before it, sessions of version m read it, and what is kept stays in form
+-- A count that night m writes changes what no session reads of the n - 1 versions before it. Sessions of version m read it, and what is
+-- kept stays in form
 pub record PutsAreRead (n m : ℕ) (c : ℤ) (ps : Pairs) : Type 0 where
   pub before : (s : ℕ) → s < m → m ≤ s + (n - 1) → read s (with_pair n m c ps) ≡ read s ps
   pub new : read m (with_pair n m c ps) ≡ c
@@ -30,7 +31,7 @@ EachReadsBack = (n s : ℕ) (ps : Pairs) → ArePairs n (suc s) ps → ReadsBack
 abbrev pub DroppedAreUnread : Type 0
 DroppedAreUnread = (n m : ℕ) (ps : Pairs) → IsBegun n (suc m) (Some ps) None → IsUnread (n - 1) (suc m) ps
 
--- that is what asking version by version tells
+-- asking version by version tells whether no session of these versions reads anything of the row
 abbrev pub UnreadIsTested : Type 0
 UnreadIsTested = (k m : ℕ) (ps : Pairs) → IsTrue (is_unread k (suc m) ps) ↔ IsUnread k (suc m) ps
 

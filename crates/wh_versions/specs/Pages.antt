@@ -14,7 +14,7 @@ read_of s e = (e.0, read s e.1)
 abbrev pub is_counted : Row × ℤ → Bool
 is_counted e = not (int_eq e.1 (pos 0))
 
--- of these rows those that count in version s, each with its count
+-- the rows that count in version s, each with its count
 abbrev pub shown_of : ℕ → List (Row × Pairs) → Counted
 shown_of s rows = filter is_counted (map (read_of s) rows)
 
@@ -22,7 +22,7 @@ shown_of s rows = filter is_counted (map (read_of s) rows)
 abbrev pub shown_at : ViewRows → ℕ → Counted
 shown_at t s = shown_of s t.rows
 
--- those after this row; each row stands after none
+-- the rows after this row, or all of them where there is none
 abbrev pub rows_after : Option Row → Counted → Counted
 rows_after None es = es
 rows_after (Some row) es = above row es

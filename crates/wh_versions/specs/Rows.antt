@@ -11,12 +11,13 @@ abbrev pub read : ℕ → Pairs → ℤ
 read s [] = pos 0
 read s (p ∷ ps) = cond (nat_le p.0 s) p.1 (read s ps)
 
--- what the night that writes version m makes of them, where n are kept: it replaces its own count, or puts a pair in front, and the last of n + 1 is dropped
+-- The pairs after a count of the night that writes version m, where n are kept. Its own is replaced, or put in front, and the last of n + 1
+-- is dropped
 abbrev pub with_pair : ℕ → ℕ → ℤ → Pairs → Pairs
 with_pair n m c [] = take n ((m, c) ∷ [])
 with_pair n m c (p ∷ ps) = cond (p.0 == m) ((m, c) ∷ ps) (take n ((m, c) ∷ p ∷ ps))
 
--- what is left where the newest is taken away if the night that writes version m put it there
+-- the pairs without the newest one, if the night that writes version m put it there
 abbrev pub without_pair : ℕ → Pairs → Pairs
 without_pair m [] = []
 without_pair m (p ∷ ps) = cond (p.0 == m) ps (p ∷ ps)
@@ -25,12 +26,12 @@ without_pair m (p ∷ ps) = cond (p.0 == m) ps (p ∷ ps)
 abbrev pub IsUnread : ℕ → ℕ → Pairs → Type 0
 IsUnread k m ps = (s : ℕ) → s < m → m ≤ s + k → read s ps ≡ pos 0
 
--- that as a test, version by version: where m is above 0, it tells the same (UnreadIsTested of Laws)
+-- whether no session of the k versions before m reads anything, tested version by version; where m is above 0, IsUnread tells the same
 abbrev pub is_unread : ℕ → ℕ → Pairs → Bool
 is_unread zero m ps = true
 is_unread (suc k) m ps = int_eq (read (m - suc k) ps) (pos 0) && is_unread k m ps
 
--- the numbers fall, from below this one
+-- the numbers of the pairs fall, from below this one
 abbrev pub AreFalling : ℕ → Pairs → Type 0
 AreFalling bound [] = Unit {0}
 AreFalling bound (p ∷ ps) = (p.0 < bound) × AreFalling p.0 ps

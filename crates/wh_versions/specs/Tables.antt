@@ -12,11 +12,11 @@ pub record ViewRows : Type 0 where
   pub night : ℕ
   pub rows : List (Row × Pairs)
 
--- a row's pairs, where it is there
+-- a row's pairs, none where the row is not there
 abbrev pub slots : ViewRows → Row → Option Pairs
 slots t row = found row t.rows
 
--- a row that is not there has no pairs
+-- a row's pairs, where a row that is not there has an empty list
 abbrev pub pairs_in : Option Pairs → Pairs
 pairs_in None = []
 pairs_in (Some ps) = ps
@@ -42,7 +42,7 @@ is_given row (e ∷ es) = is_row row e.0 || is_given row es
 abbrev pub added : Bool → Option Pairs → Option Pairs
 added b o = cond b (Some (pairs_in o)) o
 
--- it has what it had, or is one of these rows and added
+-- a row has what it had, or is one of these rows and was added
 abbrev pub MayBeAdded : Counted → Row → Option Pairs → Option Pairs → Type 0
 MayBeAdded given row old new = (new ≡ old) ⊎ (new ≡ added (is_given row given) old)
 

@@ -1,4 +1,4 @@
-//! Rows of one view, each of which keeps its counts in the last versions.
+//! Keeps the rows of one view, each with its counts in the last versions, so that sessions read while a night writes.
 #![tactic(auto)]
 
 mod laws;

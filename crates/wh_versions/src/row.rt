@@ -1,4 +1,4 @@
-//! What a row counts in the last versions.
+//! Keeps what a row counts in the last versions.
 
 ghost use Rattle.std.specs.Prelude.{◌≡◌, ◌-◌, ◌≤ℤ◌, pos, [], length, slice_get};
 ghost use Rattle.wh_versions.specs.Rows.{read, with_pair, without_pair, is_unread};
@@ -6,7 +6,7 @@ ghost use Rattle.wh_versions.specs.Inner.Rows.{BeginsWith, pairs_of};
 
 use std::marker::Model;
 
-/// What a row counts in the last versions: at most N pairs of a version's number and a count, the newest first.
+/// The counts of a row in the last versions: at most N pairs of a version's number and a count, the newest first.
 #[derive(Clone, Copy)]
 pub struct VersionRow<const N: usize> {
     numbers: [u64; N],
@@ -32,7 +32,7 @@ impl<const N: usize> Model for VersionRow<N> {
 }
 
 impl<const N: usize> VersionRow<N> {
-    /// No pairs.
+    /// Makes a row without pairs.
     pub fn none() -> Self
         ensures { result ≡ [] }
     {
@@ -42,21 +42,21 @@ impl<const N: usize> VersionRow<N> {
         }
     }
 
-    /// What a session of a version reads.
+    /// Returns what a session of this version reads of the row.
     pub fn read(self, version: u64) -> i64
         ensures { result ≡ read version self.entry }
     {
         read_places(&self.numbers, &self.counts, version)
     }
 
-    /// The pair at a place, the newest first.
+    /// Returns the pair at a place, the newest first; `None` where there are fewer.
     pub fn pair(self, place: usize) -> Option<(u64, i64)>
         ensures { result ≡ slice_get self.entry place }
     {
         pair_at(&self.numbers, &self.counts, place)
     }
 
-    /// Whether no session of the N - 1 versions before a night reads anything.
+    /// Tells whether no session of the N - 1 versions before a night reads anything.
     pub(crate) fn is_unread(self, night: u64) -> bool
         ensures { result ≡ is_unread (N - 1) night self.entry }
     {
@@ -68,7 +68,7 @@ impl<const N: usize> VersionRow<N> {
         true
     }
 
-    /// The pairs once the night that writes a version has written a count.
+    /// Returns the pairs once the night that writes this version has written a count.
     pub fn with(self, version: u64, count: i64) -> Self
         requires { pos 0 ≤ℤ count }
         ensures { result ≡ with_pair N version count self.entry }
@@ -89,7 +89,7 @@ impl<const N: usize> VersionRow<N> {
         VersionRow { numbers, counts }
     }
 
-    /// The pairs once the night that writes a version is given up.
+    /// Returns the pairs once the night that writes this version is given up.
     pub fn without(self, version: u64) -> Self
         ensures { result ≡ without_pair version self.entry }
     {

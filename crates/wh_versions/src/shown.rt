@@ -1,6 +1,6 @@
-//! What a version shows of the rows of a view.
+//! Finds what a version shows of the rows of a view.
 
-ghost use Rattle.std.specs.Prelude.{◌≡◌, ◌≢◌, ◌<◌, ◌≤◌, ◌*◌, ◌++◌, ◌↔◌, [], take, length, nat_le, IsTrue, IfOk, OnOk, OnErr};
+ghost use Rattle.std.specs.Prelude.{◌≡◌, ◌≢◌, ◌<◌, ◌≤◌, ◌*◌, ◌++◌, ◌↔◌, [], take, length, min, nat_le, IsTrue, IfOk, OnOk, OnErr};
 ghost use Rattle.wh_pieces.specs.Flat.{flat};
 ghost use Rattle.wh_row.specs.Bag.{empty};
 ghost use Rattle.wh_versions.specs.Inner.Pages.{leading};
@@ -9,7 +9,7 @@ ghost use Rattle.wh_versions.specs.Tables.{shown};
 
 use crate::row::VersionRow;
 use std::alloc::{AllocError, Global};
-use wh_pieces::{Entries, Pieces};
+use wh_pieces::{Entries, RowMap};
 use wh_row::{Bag, BagFault, Records};
 
 /// How many rows are read at a time, where many and where few are asked for: time alone hangs on it.
@@ -17,13 +17,14 @@ const MANY: usize = 256;
 
 const FEW: usize = 8;
 
-/// The first of these rows that a version shows, at most so many, and whether it shows none after them.
+/// Returns the first of these rows that a version shows, at most so many, and whether it shows none after them.
 pub(crate) fn first_shown<const N: usize>(
     alloc: Global,
     entries: Entries<'_, VersionRow<N>>,
     version: u64,
     limit: usize,
 ) -> Result<(Records, bool), AllocError>
+    requires most { limit ≤ MANY }
     ensures rows { IfOk result (λ page. page.0 ≡ take limit (shown_of version entries.entry)) }
     ensures last { IfOk result (λ page. page.1 ≡ nat_le (length (shown_of version entries.entry)) limit) }
     ensures memory { OnErr result (take limit (shown_of version entries.entry) ≢ []) }
@@ -34,7 +35,8 @@ pub(crate) fn first_shown<const N: usize>(
     shown_by_runs::<MANY, N>(alloc, entries, version, limit)
 }
 
-/// The same, where so many rows are read at a time.
+/// The rows that a session of this version sees, at most `limit` of them, and whether they are the last; `RUN` rows are looked at
+/// a time.
 fn shown_by_runs<const RUN: usize, const N: usize>(
     alloc: Global,
     mut entries: Entries<'_, VersionRow<N>>,
@@ -42,19 +44,36 @@ fn shown_by_runs<const RUN: usize, const N: usize>(
     limit: usize,
 ) -> Result<(Records, bool), AllocError>
     requires run { (0 < RUN) × (RUN ≤ MANY) }
+    requires most { limit ≤ MANY }
     ensures rows { IfOk result (λ page. page.0 ≡ take limit (shown_of version entries.entry)) }
     ensures last { IfOk result (λ page. page.1 ≡ nat_le (length (shown_of version entries.entry)) limit) }
     ensures memory { OnErr result (take limit (shown_of version entries.entry) ≢ []) }
 {
+    let room = few_of(&entries, limit);
     let mut rows = Records::new(alloc);
     while rows.len() < limit {
         let most = RUN.min(limit - rows.len());
         let Some((width, cells, pairs)) = entries.run(most) else {
             return Ok((rows, true));
         };
-        add_shown::<RUN, N>(&mut rows, limit, width, cells, pairs, version)?;
+        add_shown::<RUN, N>(&mut rows, room, width, cells, pairs, version)?;
     }
     Ok((rows, is_none_shown(entries, version)))
+}
+
+/// How many of these rows there are, at most so many.
+fn few_of<const N: usize>(entries: &Entries<'_, VersionRow<N>>, most: usize) -> usize
+    ensures { result ≡ min most (length entries.now) }
+{
+    let mut rest = entries.fork();
+    let mut few = 0;
+    while few < most {
+        let Some((_, _, pairs)) = rest.run(most - few) else {
+            break;
+        };
+        few += pairs.len();
+    }
+    few
 }
 
 /// Adds those of a run's rows that a version shows, the first rows with room for so many.
@@ -69,6 +88,7 @@ fn add_shown<const RUN: usize, const N: usize>(
     requires even { length cells.now ≡ width * length pairs.now }
     requires run { RUN ≤ MANY }
     requires few { length pairs.now ≤ RUN }
+    requires room { room ≤ MANY }
     ensures ok { OnOk result (rows.new ≡ rows.old ++ shown_of version (flat width cells.now pairs.now)) }
     ensures memory { OnErr result (shown_of version (flat width cells.now pairs.now) ≢ []) }
 {
@@ -96,7 +116,8 @@ fn add_run(
     cells: &[i64],
     counts: &[i64],
 ) -> Result<(), AllocError>
-    requires { length cells.now ≡ width * length counts.now }
+    requires even { length cells.now ≡ width * length counts.now }
+    requires room { room ≤ MANY }
     ensures ok { OnOk result (rows.new ≡ rows.old ++ flat width cells.now counts.now) }
     ensures memory { OnErr result (counts.now ≢ []) }
 {
@@ -138,10 +159,10 @@ fn is_none_shown<const N: usize>(entries: Entries<'_, VersionRow<N>>, version: u
     true
 }
 
-/// The table that a version shows of rows.
+/// Returns the table that a version shows of rows.
 pub(crate) fn table_of<const N: usize>(
     alloc: Global,
-    rows: &Pieces<VersionRow<N>>,
+    rows: &RowMap<VersionRow<N>>,
     version: u64,
 ) -> Result<Bag, AllocError>
     ensures ok { IfOk result (λ table. table ≡ shown version rows.now) }

@@ -1,4 +1,4 @@
-//! The rows of a view, each with what it counts in the last versions.
+//! Keeps the rows of a view, each with what it counts in the last versions.
 
 ghost use Rattle.std.specs.Prelude.{◌≡◌, ◌≢◌, ◌<◌, ◌≤◌, ◌+◌, ◌^◌, List, ℤ, [], take, length, nat_le, option_map, OnOk, OnErr, IfOk};
 ghost use Rattle.wh_pieces.specs.Place.{AreRisingRows};
@@ -14,7 +14,7 @@ use crate::writing::{
 };
 use std::alloc::{AllocError, Global};
 use std::marker::Model;
-use wh_pieces::Pieces;
+use wh_pieces::RowMap;
 use wh_row::{Bag, Records, Row};
 
 /// The rows of a view, each with what it counts in the last N versions.
@@ -22,9 +22,9 @@ use wh_row::{Bag, Records, Row};
 pub struct VersionTable<const N: usize> {
     alloc: Global,
     night: u64,
-    rows: Pieces<VersionRow<N>>,
+    rows: RowMap<VersionRow<N>>,
     /// The rows that the last N - 1 nights touched, those of the last night last.
-    touched: Vec<Pieces<()>>,
+    touched: Vec<RowMap<()>>,
 }
 
 impl<const N: usize> Model for VersionTable<N> {
@@ -41,7 +41,9 @@ impl<const N: usize> Model for VersionTable<N> {
 }
 
 impl<const N: usize> VersionTable<N> {
-    /// The rows of a table, as version 0 alone. Takes O(n w) time for n rows of w cells.
+    /// Makes the rows of a table, as version 0 alone.
+    /// Fails for want of memory.
+    /// Takes O(n w) time for n rows of w cells.
     pub fn new(alloc: Global, table: &Bag) -> Result<Self, AllocError>
         requires versions { 2 ≤ N }
         requires few { N ≤ 4 }
@@ -52,7 +54,7 @@ impl<const N: usize> VersionTable<N> {
         let rows = first_rows(alloc, table)?;
         let mut touched = Vec::new(alloc);
         for _ in 1..N {
-            touched.push(Pieces::new(alloc))?;
+            touched.push(RowMap::new(alloc))?;
         }
         Ok(VersionTable {
             alloc,
@@ -62,7 +64,7 @@ impl<const N: usize> VersionTable<N> {
         })
     }
 
-    /// Each row's pairs are kept in form, and the rows rise. For proofs: it does nothing.
+    /// States that each row's pairs are in form, and that the rows rise. It does nothing, and is there for proofs.
     pub fn are_in_form(&self)
         ensures pairs { AreInForm N self.now }
         ensures rising { AreRisingRows self.now.rows }
@@ -71,23 +73,27 @@ impl<const N: usize> VersionTable<N> {
         let _ = self.rows.len();
     }
 
-    /// What a row counts in a version. Takes O(w log n) time for n rows of w cells.
+    /// Returns what a row counts in a version.
+    /// Takes O(w log n) time for n rows of w cells.
     pub fn count(&self, version: u64, row: &[i64]) -> i64
         ensures { result ≡ count_at self.now version row.now }
     {
         count_of(&self.rows, version, row)
     }
 
-    /// The pairs of a row, where it is there. Takes O(w log n) time for n rows of w cells.
+    /// Returns the pairs of a row; `None` where the row is not there.
+    /// Takes O(w log n) time for n rows of w cells.
     pub fn slots(&self, row: &[i64]) -> Option<VersionRow<N>>
         ensures { result ≡ slots self.now row.now }
     {
         self.rows.get(row)
     }
 
-    /// The first rows that a version shows after a row, or from the first on, at most so many, each with its count, and whether it shows
-    /// none after these. No row before them is looked at.
-    /// Takes O(w (log n + p)) time for n rows of w cells, p of which it walks through: also those that the version does not show.
+    /// Returns the first rows that a version shows after a row, or from the first on, each with its count, and whether it shows none after
+    /// these. There are at most `limit` of them, which is up to 256.
+    /// Fails for want of memory, and only where a row is given. It takes no more than for as many rows as are left.
+    /// Takes O(w (log n + p)) time for n rows of w cells, p of which it walks through: also those that the version does not show. No row
+    /// before them is looked at.
     pub fn page(
         &self,
         alloc: Global,
@@ -95,6 +101,7 @@ impl<const N: usize> VersionTable<N> {
         after: Option<&[i64]>,
         limit: usize,
     ) -> Result<(Records, bool), AllocError>
+        requires most { limit ≤ 256 }
         ensures rows { IfOk result (λ page. page.0 ≡ take limit (rows_after (option_map (λ row. row.now) after.entry) (shown_at self.now version))) }
         ensures last { IfOk result (λ page. page.1 ≡ nat_le (length (rows_after (option_map (λ row. row.now) after.entry) (shown_at self.now version))) limit) }
 
@@ -107,7 +114,9 @@ impl<const N: usize> VersionTable<N> {
         }
     }
 
-    /// The table that a version shows. Takes O(n w) time for n rows of w cells.
+    /// Returns the table that a version shows.
+    /// Fails for want of memory, and only where the version shows a row.
+    /// Takes O(n w) time for n rows of w cells.
     pub fn table(&self, alloc: Global, version: u64) -> Result<Bag, AllocError>
         ensures ok { IfOk result (λ table. table ≡ table_at self.now version) }
 
@@ -117,8 +126,9 @@ impl<const N: usize> VersionTable<N> {
         table_of(alloc, &self.rows, version)
     }
 
-    /// Writes counts of rows in the night that was begun last. First the rows are touched, and those that are not there added, with no
-    /// pairs: only this takes memory, and where it is refused some of the rows may have been added.
+    /// Writes counts of rows in the night that was begun last.
+    /// Fails for want of memory, which only rows take that are new or untouched in this night. Then some rows may have been added, with no
+    /// pairs.
     /// Takes O(r w log(n + r)) time for r rows of w cells beside n.
     pub fn put(&mut self, rows: &[(Row, i64)]) -> Result<(), AllocError>
         requires begun { 0 < self.old.night }
@@ -136,8 +146,8 @@ impl<const N: usize> VersionTable<N> {
         Ok(())
     }
 
-    /// Takes away what the night that was begun last wrote. It takes no memory, and looks at no row that the night did not touch.
-    /// Takes O(t w log n) time for the t rows that it touched, of n of w cells.
+    /// Takes away what the night that was begun last wrote.
+    /// Takes O(t w log n) time for the t rows that it touched, of n of w cells, and no memory. No other row is looked at.
     pub fn give_up(&mut self)
         requires begun { 0 < self.old.night }
         ensures night { self.new.night ≡ self.old.night }
@@ -147,9 +157,9 @@ impl<const N: usize> VersionTable<N> {
         take_back(&mut self.rows, &self.touched[last], self.night);
     }
 
-    /// Begins the next night, and drops the rows that no session which can be read after it can read. Rows that neither the night before
-    /// nor the first of the last N - 1 touched are not looked at.
-    /// Takes O(t w log n) time for the t rows that these two touched, of n of w cells.
+    /// Begins the next night, and drops the rows of which no session that can be read from then on reads anything.
+    /// Takes O(t w log n) time for the t rows that the night before or the first of the last N - 1 touched, of n of w cells. No other row
+    /// is looked at.
     pub fn begin(&mut self)
         requires { self.old.night + 1 < 2 ^ 64 }
         ensures night { self.new.night ≡ self.old.night + 1 }
@@ -160,11 +170,12 @@ impl<const N: usize> VersionTable<N> {
         drop_unread(&mut self.rows, &self.touched[last], night);
         drop_unread(&mut self.rows, &self.touched[0], night);
         self.touched.rotate_left(1);
-        self.touched[last] = Pieces::new(self.alloc);
+        self.touched[last] = RowMap::new(self.alloc);
         self.night = night;
     }
 
-    /// The same rows again, made by `alloc`. It always takes memory: for the sets of rows that the last nights touched.
+    /// Makes a copy of this table.
+    /// Fails for want of memory, which it always takes: for the sets of rows that the last nights touched.
     /// Takes O((n + t) w) time for n rows of w cells and t touched ones.
     pub fn copy(&self, alloc: Global) -> Result<Self, AllocError>
         ensures { IfOk result (λ copy. copy ≡ self.now) }

@@ -74,8 +74,7 @@ fn assert_page(
     table: &VersionTable<3>,
     version: u64,
     after: Option<&[i64]>,
-    cell: i64,
-    last: bool,
+    (cell, last): (i64, bool),
 ) -> Result<(), Fail> {
     let (rows, none_follows) = table.page(alloc, version, after, 1)?;
     assert_eq!(rt; rows.len(), 1);
@@ -106,11 +105,11 @@ fn three_versions_are_read(rt: HostRuntime) -> Result<(), Fail> {
     assert!(rt; table.slots(&[1]).is_none());
     assert_eq!(rt; table.count(1, &[2]), 1);
     table.put(&[(row_of(alloc, 3)?, 0), (row_of(alloc, 4)?, 1)])?;
-    assert_page(&rt, alloc, &table, 1, None, 2, false)?;
-    assert_page(&rt, alloc, &table, 1, Some(&[2]), 5, true)?;
-    assert_page(&rt, alloc, &table, 2, None, 3, false)?;
-    assert_page(&rt, alloc, &table, 3, None, 4, false)?;
-    assert_page(&rt, alloc, &table, 3, Some(&[4]), 5, true)?;
+    assert_page(&rt, alloc, &table, 1, None, (2, false))?;
+    assert_page(&rt, alloc, &table, 1, Some(&[2]), (5, true))?;
+    assert_page(&rt, alloc, &table, 2, None, (3, false))?;
+    assert_page(&rt, alloc, &table, 3, None, (4, false))?;
+    assert_page(&rt, alloc, &table, 3, Some(&[4]), (5, true))?;
     assert_eq!(rt; table.table(alloc, 3)?.len(), 2);
     table.give_up();
     assert_eq!(rt; table.count(1, &[2]), 1);

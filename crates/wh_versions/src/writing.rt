@@ -1,4 +1,4 @@
-//! What a night does to the rows of a view.
+//! Writes to the rows of a view what a night does to them.
 
 ghost use Rattle.std.specs.Prelude.{◌≡◌, ◌≢◌, [], ◌∷◌, ◌⊎◌, ◌≤ℤ◌, List, ℤ, pos, true, false, cond, ◌<◌, IfOk, OnOk, OnErr, Some, None};
 ghost use Rattle.wh_pieces.specs.Pieces.{found};
@@ -11,12 +11,12 @@ ghost use Rattle.wh_versions.specs.Inner.Tables.{AreAdded, AreSafe, IsNew, begun
 
 use crate::row::VersionRow;
 use std::alloc::{AllocError, Global};
-use wh_pieces::Pieces;
+use wh_pieces::RowMap;
 use wh_row::{Bag, Row, a_bag_lists_its_rows};
 
-/// What a row counts in a version.
+/// Returns what a row counts in a version.
 pub(crate) fn count_of<const N: usize>(
-    rows: &Pieces<VersionRow<N>>,
+    rows: &RowMap<VersionRow<N>>,
     version: u64,
     row: &[i64],
 ) -> i64
@@ -40,11 +40,11 @@ fn first_pair<const N: usize>(none: VersionRow<N>, count: i64) -> VersionRow<N>
     none.with(0, count)
 }
 
-/// The rows of a table, each with its count in version 0. They are copied piece by piece.
+/// Returns the rows of a table, each with its count in version 0. They are copied piece by piece.
 pub(crate) fn first_rows<const N: usize>(
     alloc: Global,
     table: &Bag,
-) -> Result<Pieces<VersionRow<N>>, AllocError>
+) -> Result<RowMap<VersionRow<N>>, AllocError>
     requires versions { 0 < N }
     requires table { IsTable table.now }
     ensures { IfOk result (λ rows. rows ≡ opening (written_out table.now)) }
@@ -62,8 +62,8 @@ pub(crate) fn first_rows<const N: usize>(
 
 /// Touches a row, and adds it with no pairs where it is not there.
 fn add_row<const N: usize>(
-    rows: &mut Pieces<VersionRow<N>>,
-    touched: &mut Pieces<()>,
+    rows: &mut RowMap<VersionRow<N>>,
+    touched: &mut RowMap<()>,
     row: &[i64],
 ) -> Result<(), AllocError>
     ensures ok { OnOk result ((q : List ℤ) → found q rows.new ≡ added (is_row q row.now) (found q rows.old)) }
@@ -76,17 +76,17 @@ fn add_row<const N: usize>(
     let _ = rows.insert_or(
         row,
         VersionRow::none(),
-        &move |old: VersionRow<N>| -> VersionRow<N>
-            ensures { result ≡ old.entry }
-        { old },
+        &move |old: VersionRow<N>| -> Option<VersionRow<N>>
+            ensures { result ≡ Some old.entry }
+        { Some(old) },
     )?;
     Ok(())
 }
 
 /// Touches these rows, and adds those that are not there with no pairs. Where memory is refused, some of them are added.
 pub(crate) fn add_rows<const N: usize>(
-    rows: &mut Pieces<VersionRow<N>>,
-    touched: &mut Pieces<()>,
+    rows: &mut RowMap<VersionRow<N>>,
+    touched: &mut RowMap<()>,
     given: &[(Row, i64)],
 ) -> Result<(), AllocError>
     ensures ok { OnOk result (AreAdded (plain given.now) rows.old rows.new touched.new) }
@@ -102,7 +102,7 @@ pub(crate) fn add_rows<const N: usize>(
 
 /// Writes the count of a row that is there.
 fn write_row<const N: usize>(
-    rows: &mut Pieces<VersionRow<N>>,
+    rows: &mut RowMap<VersionRow<N>>,
     version: u64,
     row: &[i64],
     count: i64,
@@ -114,10 +114,10 @@ fn write_row<const N: usize>(
     let Ok(_) = rows.insert_or(
         row,
         VersionRow::none(),
-        &move |old: VersionRow<N>| -> VersionRow<N>
+        &move |old: VersionRow<N>| -> Option<VersionRow<N>>
             requires { pos 0 ≤ℤ count }
-            ensures { result ≡ with_pair N version count old.entry }
-        { old.with(version, count) },
+            ensures { result ≡ Some (with_pair N version count old.entry) }
+        { Some(old.with(version, count)) },
     ) else {
         unreachable!()
     };
@@ -125,7 +125,7 @@ fn write_row<const N: usize>(
 
 /// Writes the counts of rows that are there.
 pub(crate) fn write_rows<const N: usize>(
-    rows: &mut Pieces<VersionRow<N>>,
+    rows: &mut RowMap<VersionRow<N>>,
     version: u64,
     given: &[(Row, i64)],
 )
@@ -139,7 +139,7 @@ pub(crate) fn write_rows<const N: usize>(
 }
 
 /// Takes away what a night that is given up wrote of a row.
-fn take_back_row<const N: usize>(rows: &mut Pieces<VersionRow<N>>, version: u64, row: &[i64])
+fn take_back_row<const N: usize>(rows: &mut RowMap<VersionRow<N>>, version: u64, row: &[i64])
     ensures { (q : List ℤ) → found q rows.new ≡ cond (is_row q row.now) (given_up version (found q rows.old)) (found q rows.old) }
 {
     let Some(old) = rows.get(row) else {
@@ -152,8 +152,8 @@ fn take_back_row<const N: usize>(rows: &mut Pieces<VersionRow<N>>, version: u64,
 
 /// Takes away what a night that is given up wrote of the rows that it touched.
 pub(crate) fn take_back<const N: usize>(
-    rows: &mut Pieces<VersionRow<N>>,
-    touched: &Pieces<()>,
+    rows: &mut RowMap<VersionRow<N>>,
+    touched: &RowMap<()>,
     version: u64,
 )
     ensures { (q : List ℤ) → found q rows.new ≡ for_touched (given_up version) (found q touched.now) (found q rows.old) }
@@ -164,7 +164,7 @@ pub(crate) fn take_back<const N: usize>(
 }
 
 /// Drops a row if no session of the versions before a night that begins can read it.
-fn drop_row<const N: usize>(rows: &mut Pieces<VersionRow<N>>, version: u64, row: &[i64])
+fn drop_row<const N: usize>(rows: &mut RowMap<VersionRow<N>>, version: u64, row: &[i64])
     ensures { (q : List ℤ) → found q rows.new ≡ cond (is_row q row.now) (begun N version (found q rows.old)) (found q rows.old) }
 {
     let Some(old) = rows.get(row) else {
@@ -177,8 +177,8 @@ fn drop_row<const N: usize>(rows: &mut Pieces<VersionRow<N>>, version: u64, row:
 
 /// Drops those of a set's rows that no session of the versions before a night that begins can read.
 pub(crate) fn drop_unread<const N: usize>(
-    rows: &mut Pieces<VersionRow<N>>,
-    touched: &Pieces<()>,
+    rows: &mut RowMap<VersionRow<N>>,
+    touched: &RowMap<()>,
     version: u64,
 )
     ensures { (q : List ℤ) → found q rows.new ≡ for_touched (begun N version) (found q touched.now) (found q rows.old) }
@@ -188,8 +188,8 @@ pub(crate) fn drop_unread<const N: usize>(
     }
 }
 
-/// The same sets again.
-pub(crate) fn copy_sets(alloc: Global, sets: &[Pieces<()>]) -> Result<Vec<Pieces<()>>, AllocError>
+/// Makes copies of these sets of rows, in their order.
+pub(crate) fn copy_sets(alloc: Global, sets: &[RowMap<()>]) -> Result<Vec<RowMap<()>>, AllocError>
     ensures { IfOk result (λ copy. copy.items ≡ sets.now) }
 {
     let mut copy = Vec::new(alloc);

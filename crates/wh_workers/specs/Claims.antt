@@ -25,7 +25,7 @@ pub record Draws (v : Hand) (found : ℕ) (w : Hand) : Type 0 where
   pub under : found < v.jobs → w ≡ hand v.jobs v.parts v.left (v.drawn ++ found ∷ [])
   pub past : v.jobs ≤ found → w ≡ hand v.jobs v.parts (v.left - 1) v.drawn
 
--- it drew the number of each job, once, and no other
+-- the seat drew the number of each job, once, and no other
 abbrev pub Whole : Hand → Type 0
 Whole v = (x : ℕ) → times x v.drawn ≡ once_below x v.jobs
 

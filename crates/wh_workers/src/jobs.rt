@@ -1,25 +1,26 @@
-//! Jobs that are done by workers, with the results in their order, or the refusal of the lowest number.
+//! Has workers do jobs, and brings the results in the order of the jobs, or the refusal of the lowest number.
 
 ghost use Rattle.std.specs.Prelude.{◌≡◌, ℕ, ◌<◌, ◌≤◌, ◌^◌, IfOk, IfErr, OnErr, map, Ok};
 ghost use Rattle.wh_workers.specs.Works.{AreResults, AreDone, IsLowestRefused};
 ghost use Rattle.wh_workers.specs.Inner.Works.{IsLowest};
 
 use crate::order::{OrderFault, in_order};
-use crate::work::bring;
+use crate::work::run_jobs;
 use std::alloc::{AllocError, Global};
 use std::thread::Threads;
 
-/// Why a list of jobs has no results.
+/// The reasons why a list of jobs has no results.
 #[derive(Drop)]
 pub enum JobsFault<E> {
     /// Memory was refused for the results.
     Memory,
-    /// The job of this number was refused for this, and none of a lower number was refused.
+    /// The job of this number was refused with this, and none of a lower number was refused.
     Refused(usize, E),
 }
 
-/// Calls `f` with each number below `count`, once, in the threads of 1 to 16 workers that draw the numbers, of which the caller's
-/// thread is one. The results come in the order of the numbers. A worker whose thread cannot be started draws in the caller's.
+/// Calls `f` with each number below `count`, once, and returns the results in the order of the numbers. The threads of 1 to 16 workers draw
+/// the numbers, of which the caller's thread is one. A worker whose thread cannot be started draws in the caller's.
+/// Fails for want of memory.
 pub fn results<R: Threads + Sync, X: Send + Drop, F: Fn(usize) -> X + Sync>(
     rt: &R,
     alloc: Global,
@@ -33,7 +34,7 @@ pub fn results<R: Threads + Sync, X: Send + Drop, F: Fn(usize) -> X + Sync>(
     requires most { workers ≤ 16 }
     ensures { IfOk result (λ xs. AreResults F.Fn f.now count xs.items) }
 {
-    let brought = bring(rt, alloc, count, workers, f)?;
+    let brought = run_jobs(rt, alloc, count, workers, f)?;
     match in_order(alloc, count, brought) {
         Ok(results) => Ok(results),
         Err(OrderFault::Memory) => Err(AllocError),
@@ -63,8 +64,8 @@ fn all_or_lowest<T: Drop, E: Drop>(
     Ok(values)
 }
 
-/// Does jobs that can be refused, as [`results`] does. All are done, so that the refusal of the lowest number is answered, whichever
-/// came first.
+/// Does jobs that can be refused, each once, by the threads of 1 to 16 workers, and returns their results in the order of the jobs.
+/// Fails with the refusal of the lowest number, whichever came first, since all jobs are done. Memory may be refused instead.
 pub fn do_jobs<
     R: Threads + Sync,
     T: Send + Drop,

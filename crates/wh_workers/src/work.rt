@@ -1,4 +1,4 @@
-//! Workers, each in a thread, that draw jobs and do them.
+//! Has workers, each in a thread, draw jobs and do them.
 
 ghost use Rattle.std.specs.Prelude.{◌≡◌, ℕ, [], ◌+◌, ◌-◌, ◌^◌, ◌<◌, ◌≤◌, ◌++◌, length, IfOk, IfSome};
 ghost use denote.Param.Send.{IsSync, IsSend};
@@ -11,12 +11,12 @@ use std::alloc::{AllocError, Global};
 use std::thread::{Threads, join};
 use wh_threads::ThreadBudget;
 
-/// What a job gave.
+/// The result of a job, with the job's number.
 #[derive(Drop)]
-pub struct Brought<X> {
+pub struct JobResult<X> {
     /// The job's number.
     pub number: usize,
-    /// What it gave.
+    /// The value that the job gave.
     pub value: X,
 }
 
@@ -24,7 +24,7 @@ pub struct Brought<X> {
 #[derive(Drop)]
 pub(crate) struct Worked<X> {
     seat: Claimer,
-    brought: Vec<Brought<X>>,
+    brought: Vec<JobResult<X>>,
 }
 
 /// Draws jobs and does them until none is left. None where memory is refused.
@@ -50,7 +50,7 @@ fn draw_all<X: Drop, F: Fn(usize) -> X>(
         if found >= count {
             return Some(Worked { seat, brought });
         }
-        brought.push_reserved(Brought {
+        brought.push_reserved(JobResult {
             number: found,
             value: f(found),
         });
@@ -122,15 +122,16 @@ fn work<R: Threads + Sync, X: Send + Drop, F: Fn(usize) -> X + Sync>(
     together(word, own?, others?)
 }
 
-/// Does the jobs 0 to `count` - 1, each once, with 1 to 16 workers that draw them, of which the caller's thread is one. The results
-/// come in no order. Memory is refused where there is a job and room for the results is refused.
-pub fn bring<R: Threads + Sync, X: Send + Drop, F: Fn(usize) -> X + Sync>(
+/// Does the jobs 0 to `count` - 1, each once, with 1 to 16 workers that draw them, of which the caller's thread is one. The results come in
+/// no order.
+/// Fails for want of memory, and only where there is a job and room for the results is refused.
+pub fn run_jobs<R: Threads + Sync, X: Send + Drop, F: Fn(usize) -> X + Sync>(
     rt: &R,
     alloc: Global,
     count: usize,
     workers: usize,
     f: &F,
-) -> Result<Vec<Brought<X>>, AllocError>
+) -> Result<Vec<JobResult<X>>, AllocError>
     requires callable { (i : ℕ) → i < count → F.pre f.now i }
     requires few { count < 2 ^ 63 }
     requires least { 1 ≤ workers }

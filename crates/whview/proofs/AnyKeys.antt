@@ -5,9 +5,9 @@ use Rattle.wh_maint.specs.declared.fault.MaintFault.{MaintFault}
 use Rattle.wh_carry.specs.declared.stages.Stage.{Stage}
 use Rattle.wh_carry.specs.declared.stages.Stage.TheVariants as stage
 use Rattle.wh_carry.specs.Night.{Night}
-use Rattle.wh_carry.specs.Standing.{place_behind}
-use Rattle.wh_night.specs.declared.left.Left.{Left}
-use Rattle.wh_night.specs.declared.left.Left.TheVariants.{Untouched, GivenUp, StillOpen}
+use Rattle.wh_carry.specs.Stages.{place_behind}
+use Rattle.wh_night.specs.declared.left.Aftermath.{Aftermath}
+use Rattle.wh_night.specs.declared.left.Aftermath.TheVariants.{Untouched, GivenUp, StillOpen}
 use Rattle.wh_night.specs.Refusals.{IsFirstStageFault, IsRefusedSo, IsStageFault}
 
 -- the same night by pages of other rows
@@ -28,7 +28,7 @@ first_any n keys fault f = record {
   is = stage_any n keys (place_behind f.before) f.refused fault f.is;
 }
 
-pub refused_any : (n : Night) (keys : ℕ) (left : Left) (fault : MaintFault) → IsRefusedSo n left fault → IsRefusedSo (by_pages n keys) left fault
+pub refused_any : (n : Night) (keys : ℕ) (left : Aftermath) (fault : MaintFault) → IsRefusedSo n left fault → IsRefusedSo (by_pages n keys) left fault
 refused_any n keys Untouched fault is = is
 refused_any n keys GivenUp fault is = (is.0, first_any n keys fault is.1)
 refused_any n keys StillOpen fault is = (is.0, first_any n keys fault is.1)

@@ -1,9 +1,9 @@
 -- What a parse of the program's words without a fault leaves: one of its commands, with options that it takes.
-use Rattle.std.proofs.Common.{◌≡◌, ◌≢◌, ◌||◌, Bool, codes, true, false, refl, sym, subst, List, [], Option, Some, None}
-use Rattle.std.specs.Prelude.{IfSome}
+use Rattle.std.proofs.Common.{◌≡◌, ◌≢◌, ◌||◌, ℕ, Bool, codes, true, false, refl, sym, subst, List, [], Option, Some, None}
+use Rattle.std.specs.Prelude.{IfSome, pos}
 use Rattle.std.specs.Str.{bytes_eq}
 use Rattle.std.proofs.lemmas.Slice.Eq.{bytes_eq-Decides}
-use Rattle.clap.specs.Words.{Accepts, App, Rule, Text, built, fault_of, first_of, new_app, subcommand_of}
+use Rattle.clap.specs.Words.{Accepts, Rule, Text, built, fault_of, first_of, subcommand_of}
 use Rattle.clap.specs.Facts.{parser_of_value}
 use Rattle.clap.specs.Faults.{level_fault}
 use Rattle.clap.specs.Simple.{Shape, built_leaf, inherited}
@@ -14,8 +14,8 @@ use Rattle.clap.specs.declared.builder.action.ArgAction.TheVariants as action
 use Rattle.clap.specs.declared.builder.value_parser.ValueParser.{ValueParser}
 use Rattle.clap.specs.declared.builder.value_parser.ValueParser.TheVariants as parser
 use Rattle.clap.proofs.ValueTestLemmas.{accepts-Accepts}
-use Rattle.whview.specs.CommandLine.{budget_parser, command_app, cost_parser, night_app, plan_app, whview_app, with_commands}
-use Rattle.whview.specs.Inner.CommandLine.{IsCommand, NamesCommand, TakesBudget, TakesCosts, TakesNightOptions, check, certify, night, plan, replay}
+use Rattle.whview.specs.CommandLine.{Takes, command_of, options_of, priced, program_of, whview_app}
+use Rattle.whview.specs.Inner.CommandLine.{AreTaken, IsCommand, NamesCommand, check, certify, night, plan, replay}
 use Rattle.whview.proofs.Entered.{EachCommand, IsNotHelp, entered_command}
 use Rattle.whview.proofs.LeafRows.{AreOptionsOf, IsOptionOf, PassesIn, first_of_good}
 
@@ -33,14 +33,14 @@ not_help word answers named = go (bytes_eq (codes "help") word) (bytes_eq-Decide
     go false same e = cc
 
 -- a command as it is built
-abbrev command_shape : App → Shape
-command_shape command = built_leaf (inherited (with_commands (new_app (codes "whview"))).top command.top)
+abbrev command_shape : Text → List (Text × Takes) → Shape
+command_shape name options = built_leaf (inherited (program_of []).top (command_of name options).top)
 
 option_known : (c : List Rule) (a : Rule) → arg_by_id c a.id ≡ Some a → action_of a ≢ action.Count → a.index ≡ None → a.defaults ≡ [] → IsOptionOf c a
 option_known c a own uncounted unplaced undefaulted = record { own = own; uncounted = uncounted; unplaced = unplaced; undefaulted = undefaulted }
 
 -- its costs, its file and its help
-command_options : (name : Text) → AreOptionsOf (command_shape (command_app name)).rules (command_shape (command_app name)).rules
+command_options : (name : Text) → AreOptionsOf (command_shape name priced).rules (command_shape name priced).rules
 command_options name = (
   option_known _ _ refl (λ e. cc) refl refl,
   (
@@ -53,7 +53,7 @@ command_options name = (
 )
 
 -- its costs, its file, its budget and its help
-plan_options : AreOptionsOf (command_shape plan_app).rules (command_shape plan_app).rules
+plan_options : AreOptionsOf (command_shape (codes "plan") (options_of (codes "plan"))).rules (command_shape (codes "plan") (options_of (codes "plan"))).rules
 plan_options = (
   option_known _ _ refl (λ e. cc) refl refl,
   (
@@ -68,9 +68,9 @@ plan_options = (
   ),
 )
 
--- its workers, its readers, its rows of a page, what it prints, its file and its help
-night_shape : AreOptionsOf (command_shape night_app).rules (command_shape night_app).rules
-night_shape = (
+-- its workers, its readers, its rows of a page, what it prints, its file, its length and its help
+night_options : AreOptionsOf (command_shape (codes "night") (options_of (codes "night"))).rules (command_shape (codes "night") (options_of (codes "night"))).rules
+night_options = (
   option_known _ _ refl (λ e. cc) refl refl,
   (
     option_known _ _ refl (λ e. cc) refl refl,
@@ -80,10 +80,23 @@ night_shape = (
         option_known _ _ refl (λ e. cc) refl refl,
         (
           option_known _ _ refl (λ e. cc) refl refl,
-          (option_known _ _ refl (λ e. cc) refl refl, tt),
+          (
+            option_known _ _ refl (λ e. cc) refl refl,
+            (option_known _ _ refl (λ e. cc) refl refl, tt),
+          ),
         ),
       ),
     ),
+  ),
+)
+
+-- its file, its length and its help
+replay_options : AreOptionsOf (command_shape (codes "replay") (options_of (codes "replay"))).rules (command_shape (codes "replay") (options_of (codes "replay"))).rules
+replay_options = (
+  option_known _ _ refl (λ e. cc) refl refl,
+  (
+    option_known _ _ refl (λ e. cc) refl refl,
+    (option_known _ _ refl (λ e. cc) refl refl, tt),
   ),
 )
 
@@ -100,39 +113,60 @@ option_value s options name p a known cased parser words e =
         let by_parser = subst (λ (o : Option ValueParser). accepts a.ignore_case (parser_of_value o) text ≡ true) parser h in
         subst (λ (b : Bool). accepts b p text ≡ true) cased by_parser
 
-command_costs : (name : Text) (words : List Text) → level_fault (command_shape (command_app name)) [] nothing_held words false [] ≡ []
-    → TakesCosts (rows_after (command_shape (command_app name)).rules [] words)
-command_costs name words e = (
-  option_value (command_shape (command_app name)) (command_options name) (codes "comp-cost") cost_parser _ refl refl refl words e,
-  option_value (command_shape (command_app name)) (command_options name) (codes "inst-cost") cost_parser _ refl refl refl words e,
+abbrev amounts : ℕ → ValueParser
+amounts most = parser.Signed (pos 1) (pos most)
+
+-- its options, but that it is such a command, are taken
+command_taken : (name : Text) (words : List Text) → level_fault (command_shape name priced) [] nothing_held words false [] ≡ []
+    → AreTaken (rows_after (command_shape name priced).rules [] words) priced
+command_taken name words e = (
+  option_value (command_shape name priced) (command_options name) (codes "comp-cost") (amounts 1000000) _ refl refl refl words e,
+  (option_value (command_shape name priced) (command_options name) (codes "inst-cost") (amounts 1000000) _ refl refl refl words e, (tt, tt)),
 )
 
-plan_costs : (words : List Text) → level_fault (command_shape plan_app) [] nothing_held words false [] ≡ [] → TakesCosts (rows_after (command_shape plan_app).rules [] words)
-plan_costs words e = (
-  option_value (command_shape plan_app) plan_options (codes "comp-cost") cost_parser _ refl refl refl words e,
-  option_value (command_shape plan_app) plan_options (codes "inst-cost") cost_parser _ refl refl refl words e,
+abbrev plan_shape : Shape
+plan_shape = command_shape (codes "plan") (options_of (codes "plan"))
+
+plan_taken : (words : List Text) → level_fault plan_shape [] nothing_held words false [] ≡ [] → AreTaken (rows_after plan_shape.rules [] words) (options_of (codes "plan"))
+plan_taken words e = (
+  option_value plan_shape plan_options (codes "comp-cost") (amounts 1000000) _ refl refl refl words e,
+  (
+    option_value plan_shape plan_options (codes "inst-cost") (amounts 1000000) _ refl refl refl words e,
+    (tt, (option_value plan_shape plan_options (codes "budget") (amounts 9223372036854775807) _ refl refl refl words e, tt)),
+  ),
 )
 
-plan_budget : (words : List Text) → level_fault (command_shape plan_app) [] nothing_held words false [] ≡ [] → TakesBudget (rows_after (command_shape plan_app).rules [] words)
-plan_budget words e = option_value (command_shape plan_app) plan_options (codes "budget") budget_parser _ refl refl refl words e
+abbrev night_shape : Shape
+night_shape = command_shape (codes "night") (options_of (codes "night"))
 
-night_options : (words : List Text) → level_fault (command_shape night_app) [] nothing_held words false [] ≡ [] → TakesNightOptions (rows_after (command_shape night_app).rules [] words)
-night_options words e = (
-  option_value (command_shape night_app) night_shape (codes "workers") (parser.Unsigned 1 16) _ refl refl refl words e,
-  option_value (command_shape night_app) night_shape (codes "readers") (parser.Unsigned 0 16) _ refl refl refl words e,
-  option_value (command_shape night_app) night_shape (codes "page-keys") (parser.Unsigned 1 256) _ refl refl refl words e,
+night_taken : (words : List Text) → level_fault night_shape [] nothing_held words false [] ≡ [] → AreTaken (rows_after night_shape.rules [] words) (options_of (codes "night"))
+night_taken words e = (
+  option_value night_shape night_options (codes "workers") (parser.Unsigned 1 16) _ refl refl refl words e,
+  (
+    option_value night_shape night_options (codes "readers") (parser.Unsigned 0 16) _ refl refl refl words e,
+    (
+      option_value night_shape night_options (codes "page-keys") (parser.Unsigned 1 256) _ refl refl refl words e,
+      (tt, (tt, (option_value night_shape night_options (codes "most") (parser.Unsigned 1 1099511627776) _ refl refl refl words e, tt))),
+    ),
+  ),
 )
+
+abbrev replay_shape : Shape
+replay_shape = command_shape (codes "replay") (options_of (codes "replay"))
+
+replay_taken : (words : List Text) → level_fault replay_shape [] nothing_held words false [] ≡ [] → AreTaken (rows_after replay_shape.rules [] words) (options_of (codes "replay"))
+replay_taken words e = (tt, (option_value replay_shape replay_options (codes "most") (parser.Unsigned 1 1099511627776) _ refl refl refl words e, tt))
 
 each_command : EachCommand IsCommand (built whview_app).subs
 each_command = (
-  λ word words answers named e. check refl (command_costs (codes "check") words e),
+  λ word words answers named e. check refl (command_taken (codes "check") words e),
   (
-    λ word words answers named e. plan refl (plan_costs words e) (plan_budget words e),
+    λ word words answers named e. plan refl (plan_taken words e),
     (
-      λ word words answers named e. certify refl (command_costs (codes "certify") words e),
+      λ word words answers named e. certify refl (command_taken (codes "certify") words e),
       (
-        λ word words answers named e. night refl (night_options words e),
-        (λ word words answers named e. replay refl, (λ word words answers named e. absurd (not_help word answers named), tt)),
+        λ word words answers named e. night refl (night_taken words e),
+        (λ word words answers named e. replay refl (replay_taken words e), (λ word words answers named e. absurd (not_help word answers named), tt)),
       ),
     ),
   ),

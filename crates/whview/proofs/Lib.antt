@@ -1,5 +1,7 @@
 pub mod AnyKeys
 pub mod Commands
+pub mod TakenWords
+pub mod GivenWords
 pub mod Entered
 pub mod Faults
 pub mod FirstPlaces
@@ -7,6 +9,7 @@ pub mod IfOks
 pub mod LeafRows
 pub mod NumberTexts
 pub mod Outputs
+pub mod ShownCommands
 pub mod SingleAnswers
 pub mod SingleFaults
 pub mod SingleNights

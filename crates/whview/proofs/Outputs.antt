@@ -7,8 +7,8 @@ use Rattle.wh_text_bundle.specs.declared.read.ReadFault.{ReadFault}
 use Rattle.wh_text_bundle.specs.declared.read.ReadFault.TheVariants as reading
 use Rattle.whview.specs.CommandFault.{FailsAs, status_of}
 use Rattle.whview.specs.CommandLine.{words_fault}
-use Rattle.whview.specs.FirstLine.{words_in, names_input}
-use Rattle.whview.specs.Output.{AskFor, Bytes, Failed, HoldsOfFile, HoldsOfReading, IsCommandOutput, IsHandedOutput, IsReadAnswer, IsRefused, IsSourceAnswer, Reading, answered, file_of, too_long, within}
+use Rattle.whview.specs.FirstLine.{words_in, names_input, names_most}
+use Rattle.whview.specs.Output.{AskFor, Bytes, Failed, HoldsOfFile, HoldsOfReading, IsCommandOutput, IsHandedOutput, IsReadAnswer, IsRefused, IsSourceAnswer, Reading, answered, file_of, limit_of, too_long, within}
 use Rattle.whview.specs.Inner.Output.{IsUnreadShown}
 use Rattle.whview.specs.Status.{status_number}
 use Rattle.whview.specs.declared.command_line.Asked.{Asked}
@@ -34,16 +34,25 @@ many_read (Some all) limit many = (all, refl, many)
 many_read None limit many = let long = longer limit in (long.0, tt, long.1)
 
 -- an answer to what was read, from the reader's bytes or from why they could not be had
-pub answers_reading : {B : Type 0} (read : Result B ReadFault) (items : B → List ℕ) (len : B → ℕ) (same : (v : B) → len v ≡ length (items v)) (known : Option (List ℕ)) (before after : ℕ) (of : List ℕ → List ℕ → ℕ → Type 0) (text : List ℕ) (status : ℕ)
-    → IfOk read (λ v. len v ≤ 67108864) → IfOk read (λ v. IfSome known (λ all. items v ≡ all)) → (IsErrOf read reading.TooLong → IfSome known (λ all. 67108864 < length all))
+pub answers_reading : {B : Type 0} (read : Result B ReadFault) (items : B → List ℕ) (len : B → ℕ) (same : (v : B) → len v ≡ length (items v)) (known : Option (List ℕ)) (before after limit : ℕ) (of : List ℕ → List ℕ → ℕ → Type 0) (text : List ℕ) (status : ℕ)
+    → IfOk read (λ v. len v ≤ limit) → IfOk read (λ v. IfSome known (λ all. items v ≡ all)) → (IsErrOf read reading.TooLong → IfSome known (λ all. limit < length all))
     → (IsErrOf read reading.Read → before < after) → (¬ (IsErrOf read reading.Read) → after ≡ before)
-    → MatchResult read (λ v. of (items v) text status) (λ fault. IsUnreadShown fault text status) → HoldsOfReading known before after (λ r. IsReadAnswer r of text status)
-answers_reading (Ok v) items len same known before after of text status fits all long failed kept is =
-    (Bytes (items v), (all, kept (λ e. cc)), within (subst (λ n. n ≤ 67108864) (same v) fits) is)
-answers_reading (Err reading.Read) items len same known before after of text status fits all long failed kept is = (Failed, failed refl, is)
-answers_reading (Err reading.TooLong) items len same known before after of text status fits all long failed kept is =
-    let many = many_read known 67108864 (long refl) in (Bytes many.0, (many.1, kept (λ e. cc)), too_long many.2 is)
-answers_reading (Err reading.Memory) items len same known before after of text status fits all long failed kept is = absurd is
+    → MatchResult read (λ v. of (items v) text status) (λ fault. IsUnreadShown fault text status) → HoldsOfReading known before after (λ r. IsReadAnswer limit r of text status)
+answers_reading (Ok v) items len same known before after limit of text status fits all long failed kept is =
+    (Bytes (items v), (all, kept (λ e. cc)), within (subst (λ n. n ≤ limit) (same v) fits) is)
+answers_reading (Err reading.Read) items len same known before after limit of text status fits all long failed kept is = (Failed, failed refl, is)
+answers_reading (Err reading.TooLong) items len same known before after limit of text status fits all long failed kept is =
+    let many = many_read known limit (long refl) in (Bytes many.0, (many.1, kept (λ e. cc)), too_long many.2 is)
+answers_reading (Err reading.Memory) items len same known before after limit of text status fits all long failed kept is = absurd is
+
+-- the same where the limit is known by another number
+pub answers_within : {B : Type 0} (limit most : ℕ) → limit ≡ most → (read : Result B ReadFault) (items : B → List ℕ) (len : B → ℕ) (same : (v : B) → len v ≡ length (items v)) (known : Option (List ℕ)) (before after : ℕ) (of : List ℕ → List ℕ → ℕ → Type 0) (text : List ℕ) (status : ℕ)
+    → IfOk read (λ v. len v ≤ limit) → IfOk read (λ v. IfSome known (λ all. items v ≡ all)) → (IsErrOf read reading.TooLong → IfSome known (λ all. limit < length all))
+    → (IsErrOf read reading.Read → before < after) → (¬ (IsErrOf read reading.Read) → after ≡ before)
+    → MatchResult read (λ v. of (items v) text status) (λ fault. IsUnreadShown fault text status) → HoldsOfReading known before after (λ r. IsReadAnswer most r of text status)
+answers_within limit most e read items len same known before after of text status fits all long failed kept is =
+    subst (λ n. HoldsOfReading known before after (λ r. IsReadAnswer n r of text status)) e
+    (answers_reading read items len same known before after limit of text status fits all long failed kept is)
 
 -- ---- words that were handed in
 
@@ -57,15 +66,15 @@ pub left_unread : (known : Option (List ℕ)) (faults : ℕ) (P : Reading → Ty
 left_unread known faults P holds = let some = some_bytes known in (Bytes some.0, (some.1, refl), holds (Bytes some.0))
 
 pub from_file : (words : List (List ℕ)) (known : Option (List ℕ)) (faults : ℕ) (text : List ℕ) (status : ℕ) (command : Asked) (path : List ℕ) → AskFor words command → Some path ≡ file_of command
-    → HoldsOfFile (λ own. IsReadAnswer own (IsCommandOutput command) text status) → HoldsOfReading known faults faults (λ reading. IsHandedOutput words reading text status)
+    → HoldsOfFile (λ own. IsReadAnswer (limit_of command) own (IsCommandOutput command) text status) → HoldsOfReading known faults faults (λ reading. IsHandedOutput words reading text status)
 from_file words known faults text status command path ask is holds =
     left_unread known faults (λ reading. IsHandedOutput words reading text status)
-    (λ reading. answered command ask (subst (λ file. IsSourceAnswer file reading (IsCommandOutput command) text status) is holds))
+    (λ reading. answered command ask (subst (λ file. IsSourceAnswer (limit_of command) file reading (IsCommandOutput command) text status) is holds))
 
 pub from_reader : (words : List (List ℕ)) (known : Option (List ℕ)) (before after : ℕ) (text : List ℕ) (status : ℕ) (command : Asked) → AskFor words command → None ≡ file_of command
-    → HoldsOfReading known before after (λ own. IsReadAnswer own (IsCommandOutput command) text status) → HoldsOfReading known before after (λ reading. IsHandedOutput words reading text status)
+    → HoldsOfReading known before after (λ own. IsReadAnswer (limit_of command) own (IsCommandOutput command) text status) → HoldsOfReading known before after (λ reading. IsHandedOutput words reading text status)
 from_reader words known before after text status command ask is holds =
-    (holds.0, holds.1, answered command ask (subst (λ file. IsSourceAnswer file holds.0 (IsCommandOutput command) text status) is holds.2))
+    (holds.0, holds.1, answered command ask (subst (λ file. IsSourceAnswer (limit_of command) file holds.0 (IsCommandOutput command) text status) is holds.2))
 
 -- ---- words on the first line
 
@@ -73,6 +82,9 @@ pub list_any-map : {X Y : Type 0} (p : Y → Bool) (f : X → Y) (xs : List X) �
 list_any-map p f [] = refl
 list_any-map p f (x ∷ xs) = ap (λ b. p (f x) || b) (list_any-map p f xs)
 
--- whether the line names a file, by the words that the code has
+-- whether the line names a file, or a limit, by the words that the code has
 pub names_file : (line : List ℕ) (words : List (Bor (List ℕ))) (b : Bool) → map (λ w. w.now) words ≡ words_in line → list_any (λ w. names_input w.now) words ≡ b → list_any names_input (words_in line) ≡ b
 names_file line words b same named = ap (list_any names_input) (sym same) ∙ list_any-map names_input (λ w. w.now) words ∙ named
+
+pub names_limit : (line : List ℕ) (words : List (Bor (List ℕ))) (b : Bool) → map (λ w. w.now) words ≡ words_in line → list_any (λ w. names_most w.now) words ≡ b → list_any names_most (words_in line) ≡ b
+names_limit line words b same named = ap (list_any names_most) (sym same) ∙ list_any-map names_most (λ w. w.now) words ∙ named

@@ -128,13 +128,18 @@ is_ready cat is base old read bags opened valued nights ok changes of same = rec
 }
 
 pub ready_setup : (cat : CatalogOf) (schedule : ScheduleOf) (tables : List Bag) (nights : List NightOfMachine) → IsReady cat tables nights
+    → (desks : ℕ) → desks ≡ schedule.desks → 1 ≤ desks → desks ≤ 16 → (workers : ℕ) → workers ≡ schedule.workers → 1 ≤ workers → workers ≤ 16
     → (keys : ℕ) → keys ≡ schedule.keys → 1 ≤ keys → keys ≤ 256 → (versions : ℕ) → versions ≡ schedule.versions → 2 ≤ versions → versions ≤ 4
     → IsSetup (machine_of cat schedule tables nights)
-ready_setup cat schedule tables nights ready keys same some few versions kept least most = record {
+ready_setup cat schedule tables nights ready desks said some_desks few_desks workers told some_workers few_workers keys same some few versions kept least most = record {
   catalogue = ready.catalogue;
   opening = ready.opening;
   tables = ready.tables_fit;
   nights = ready.nights_fit;
+  some_desks = subst (λ n. 1 ≤ n) said some_desks;
+  few_desks = subst (λ n. n ≤ 16) said few_desks;
+  some_workers = subst (λ n. 1 ≤ n) told some_workers;
+  few_workers = subst (λ n. n ≤ 16) told few_workers;
   some_keys = subst (λ k. 1 ≤ k) same some;
   few_keys = subst (λ k. k ≤ 256) same few;
   versions = subst (λ n. 2 ≤ n) kept least;

@@ -1,7 +1,7 @@
 -- The same words and bytes have one answer at most.
 use Rattle.std.proofs.Common.{◌≡◌, ◌<◌, ◌≤◌, ℕ, List, [], ◌∷◌, Option, Some, None, Result, Ok, Err, true, false, refl, sym, ap, subst, ◌∙◌, inl, inr, arith}
 use Rattle.std.specs.Prelude.{MatchResult, codes}
-use Rattle.clap.specs.Words.{IsAmong, Kinds, Row, Text, first_of}
+use Rattle.clap.specs.Words.{IsAmong, Kinds, Row, Text}
 use Rattle.clap.specs.declared.error.kind.ErrorKind.{ErrorKind}
 use Rattle.wh_dag.specs.Shape.{IsShape}
 use Rattle.wh_text.specs.declared.fault.LoadFault.{LoadFault}
@@ -25,15 +25,16 @@ use Rattle.wh_text_lines.specs.PlanText.{plan_of}
 use Rattle.whview.specs.CertifyOutput.{IsCertifyOutput, IsJudgement, IsLeastBy, broken as broken_claim, judged, other_work, verdict_status, verdict_text, work_at}
 use Rattle.whview.specs.Status.{status_number}
 use Rattle.whview.specs.CheckOutput.{IsCheckOutput, IsFaultShown, IsVerdict, broken, correct, correct_text}
-use Rattle.whview.specs.CommandLine.{AsksBy, IsAsked, words_fault}
+use Rattle.whview.specs.CommandLine.{IsAsked, shown, usual_limit, words_fault}
 use Rattle.whview.specs.FirstLine.{after_first_line, first_line_of, words_in}
 use Rattle.whview.specs.NightOutput.{IsNightOutput}
+use Rattle.whview.proofs.ShownCommands.{Shown, file_in, limit_in, number_at, prices_alike, print_in, shown_alike}
 use Rattle.whview.proofs.SingleFaults.{one_broken, one_shown}
 use Rattle.whview.proofs.SingleNights.{one_night}
 use Rattle.whview.proofs.SingleReplays.{one_replay}
 use Rattle.whview.proofs.SinglePlans.{as_planning, one_plan}
 use Rattle.whview.specs.OneAnswer.{AreOneAnswer, AreOneAnswerTo, AreOneLineAnswer, AreSame, OneCertifyOutput, OneCheckOutput, OneHandedOutput, OneInputOutput, one_text}
-use Rattle.whview.specs.Output.{AskFor, Bytes, Failed, IsCommandOutput, IsHandedOutput, IsLineAnswer, IsReadAnswer, IsRefused, IsSourceAnswer, IsWordsAnswer, Reading, ReadsInput, answered, file_of, names_a_file, not_text, refused, of_words, too_long, within}
+use Rattle.whview.specs.Output.{AskFor, Bytes, Failed, IsCommandOutput, IsHandedOutput, IsLineAnswer, IsReadAnswer, IsRefused, IsSourceAnswer, IsWordsAnswer, Reading, ReadsInput, answered, file_of, limit_of, names_a_file, names_a_limit, not_text, refused, of_words, too_long, within}
 use Rattle.whview.specs.declared.command_line.Asked.{Asked}
 use Rattle.whview.specs.declared.command_line.Asked.TheVariants as asked
 use Rattle.wh_text_catalogue.proofs.ShapesRead.{from_step, is_shape, same_Ok}
@@ -191,46 +192,51 @@ certify_is_not_replay e = begin_apart (codes "certify") (codes "replay") 99 114 
 night_is_not_replay : codes "night" ≡ codes "replay" → ⊥
 night_is_not_replay e = begin_apart (codes "night") (codes "replay") 110 114 refl refl (omega arith) e
 
+-- two commands that are shown alike print the same
+alike_asked : (command other : Asked) → shown other ≡ shown command
+    → (bytes text : List ℕ) (status : ℕ) → IsCommandOutput other bytes text status → IsCommandOutput command bytes text status
+alike_asked (asked.Check costs input) (asked.Check costs' input') same bytes text status is =
+    as_check costs costs' bytes text status (prices_alike costs costs' (ap (λ (s : Shown). number_at 0 s.1) same) (ap (λ (s : Shown). number_at 1 s.1) same)) is
+alike_asked (asked.Certify costs input) (asked.Certify costs' input') same bytes text status is =
+    as_certification costs costs' bytes text status (prices_alike costs costs' (ap (λ (s : Shown). number_at 0 s.1) same) (ap (λ (s : Shown). number_at 1 s.1) same)) is
+alike_asked (asked.Plan costs budget input) (asked.Plan costs' budget' input') same bytes text status is =
+    as_planning costs costs' budget.nodes budget'.nodes bytes text status
+    (prices_alike costs costs' (ap (λ (s : Shown). number_at 0 s.1) same) (ap (λ (s : Shown). number_at 1 s.1) same)) (ap (λ (s : Shown). number_at 3 s.1) same) is
+alike_asked (asked.Night how input) (asked.Night how' input') same bytes text status is =
+    subst (λ printed. IsNightOutput printed how.readers bytes text status) (ap (λ (s : Shown). print_in s.1) same)
+    (subst (λ readers. IsNightOutput how'.print readers bytes text status) (ap (λ (s : Shown). number_at 1 s.1) same) is)
+alike_asked (asked.Replay input) (asked.Replay input') same bytes text status is = is
+alike_asked (asked.Check costs input) (asked.Plan costs' budget' input') same bytes text status is =
+    let bad : codes "plan" ≡ codes "check" = ap (λ (s : Shown). s.0) same in cc
+alike_asked (asked.Check costs input) (asked.Certify costs' input') same bytes text status is =
+    let bad : codes "certify" ≡ codes "check" = ap (λ (s : Shown). s.0) same in cc
+alike_asked (asked.Check costs input) (asked.Night how' input') same bytes text status is = absurd (check_is_not_night (sym (ap (λ (s : Shown). s.0) same)))
+alike_asked (asked.Check costs input) (asked.Replay input') same bytes text status is = absurd (check_is_not_replay (sym (ap (λ (s : Shown). s.0) same)))
+alike_asked (asked.Plan costs budget input) (asked.Check costs' input') same bytes text status is =
+    let bad : codes "check" ≡ codes "plan" = ap (λ (s : Shown). s.0) same in cc
+alike_asked (asked.Plan costs budget input) (asked.Certify costs' input') same bytes text status is =
+    let bad : codes "certify" ≡ codes "plan" = ap (λ (s : Shown). s.0) same in cc
+alike_asked (asked.Plan costs budget input) (asked.Night how' input') same bytes text status is = absurd (plan_is_not_night (sym (ap (λ (s : Shown). s.0) same)))
+alike_asked (asked.Plan costs budget input) (asked.Replay input') same bytes text status is = absurd (plan_is_not_replay (sym (ap (λ (s : Shown). s.0) same)))
+alike_asked (asked.Certify costs input) (asked.Check costs' input') same bytes text status is =
+    let bad : codes "check" ≡ codes "certify" = ap (λ (s : Shown). s.0) same in cc
+alike_asked (asked.Certify costs input) (asked.Plan costs' budget' input') same bytes text status is =
+    let bad : codes "plan" ≡ codes "certify" = ap (λ (s : Shown). s.0) same in cc
+alike_asked (asked.Certify costs input) (asked.Night how' input') same bytes text status is = absurd (certify_is_not_night (sym (ap (λ (s : Shown). s.0) same)))
+alike_asked (asked.Certify costs input) (asked.Replay input') same bytes text status is = absurd (certify_is_not_replay (sym (ap (λ (s : Shown). s.0) same)))
+alike_asked (asked.Night how input) (asked.Check costs' input') same bytes text status is = absurd (check_is_not_night (ap (λ (s : Shown). s.0) same))
+alike_asked (asked.Night how input) (asked.Plan costs' budget' input') same bytes text status is = absurd (plan_is_not_night (ap (λ (s : Shown). s.0) same))
+alike_asked (asked.Night how input) (asked.Certify costs' input') same bytes text status is = absurd (certify_is_not_night (ap (λ (s : Shown). s.0) same))
+alike_asked (asked.Night how input) (asked.Replay input') same bytes text status is = absurd (night_is_not_replay (sym (ap (λ (s : Shown). s.0) same)))
+alike_asked (asked.Replay input) (asked.Check costs' input') same bytes text status is = absurd (check_is_not_replay (ap (λ (s : Shown). s.0) same))
+alike_asked (asked.Replay input) (asked.Plan costs' budget' input') same bytes text status is = absurd (plan_is_not_replay (ap (λ (s : Shown). s.0) same))
+alike_asked (asked.Replay input) (asked.Certify costs' input') same bytes text status is = absurd (certify_is_not_replay (ap (λ (s : Shown). s.0) same))
+alike_asked (asked.Replay input) (asked.Night how' input') same bytes text status is = absurd (night_is_not_replay (ap (λ (s : Shown). s.0) same))
+
 -- two commands that the same words ask for print the same
 one_asked : (found : Option (Text × List Row)) (command other : Asked) → IsAsked found command → IsAsked found other
     → (bytes text : List ℕ) (status : ℕ) → IsCommandOutput other bytes text status → IsCommandOutput command bytes text status
-one_asked None command other f g bytes text status is = absurd f
-one_asked (Some found) (asked.Check costs input) (asked.Check costs' input') f g bytes text status is =
-    as_check costs costs' bytes text status (g.1.priced ∙ sym f.1.priced) is
-one_asked (Some found) (asked.Certify costs input) (asked.Certify costs' input') f g bytes text status is =
-    as_certification costs costs' bytes text status (g.1.priced ∙ sym f.1.priced) is
-one_asked (Some found) (asked.Plan costs budget input) (asked.Plan costs' budget' input') f g bytes text status is =
-    as_planning costs costs' budget.nodes budget'.nodes bytes text status (g.1.priced ∙ sym f.1.priced) (g.2 ∙ sym f.2) is
-one_asked (Some found) (asked.Check costs input) (asked.Plan costs' budget' input') f g bytes text status is =
-    let bad : codes "check" ≡ codes "plan" = sym f.0 ∙ g.0 in cc
-one_asked (Some found) (asked.Check costs input) (asked.Certify costs' input') f g bytes text status is =
-    let bad : codes "check" ≡ codes "certify" = sym f.0 ∙ g.0 in cc
-one_asked (Some found) (asked.Plan costs budget input) (asked.Check costs' input') f g bytes text status is =
-    let bad : codes "plan" ≡ codes "check" = sym f.0 ∙ g.0 in cc
-one_asked (Some found) (asked.Plan costs budget input) (asked.Certify costs' input') f g bytes text status is =
-    let bad : codes "plan" ≡ codes "certify" = sym f.0 ∙ g.0 in cc
-one_asked (Some found) (asked.Certify costs input) (asked.Check costs' input') f g bytes text status is =
-    let bad : codes "certify" ≡ codes "check" = sym f.0 ∙ g.0 in cc
-one_asked (Some found) (asked.Certify costs input) (asked.Plan costs' budget' input') f g bytes text status is =
-    let bad : codes "certify" ≡ codes "plan" = sym f.0 ∙ g.0 in cc
-one_asked (Some found) (asked.Night how input) (asked.Night how' input') f g bytes text status is =
-    subst (λ printed. IsNightOutput printed how.readers bytes text status) (g.1.print ∙ sym f.1.print)
-    (subst (λ readers. IsNightOutput how'.print readers bytes text status) (g.1.readers ∙ sym f.1.readers) is)
-one_asked (Some found) (asked.Check costs input) (asked.Night how' input') f g bytes text status is = absurd (check_is_not_night (sym f.0 ∙ g.0))
-one_asked (Some found) (asked.Night how input) (asked.Check costs' input') f g bytes text status is = absurd (check_is_not_night (sym g.0 ∙ f.0))
-one_asked (Some found) (asked.Plan costs budget input) (asked.Night how' input') f g bytes text status is = absurd (plan_is_not_night (sym f.0 ∙ g.0))
-one_asked (Some found) (asked.Night how input) (asked.Plan costs' budget' input') f g bytes text status is = absurd (plan_is_not_night (sym g.0 ∙ f.0))
-one_asked (Some found) (asked.Certify costs input) (asked.Night how' input') f g bytes text status is = absurd (certify_is_not_night (sym f.0 ∙ g.0))
-one_asked (Some found) (asked.Night how input) (asked.Certify costs' input') f g bytes text status is = absurd (certify_is_not_night (sym g.0 ∙ f.0))
-one_asked (Some found) (asked.Replay input) (asked.Replay input') f g bytes text status is = is
-one_asked (Some found) (asked.Check costs input) (asked.Replay input') f g bytes text status is = absurd (check_is_not_replay (sym f.0 ∙ g.0))
-one_asked (Some found) (asked.Replay input) (asked.Check costs' input') f g bytes text status is = absurd (check_is_not_replay (sym g.0 ∙ f.0))
-one_asked (Some found) (asked.Plan costs budget input) (asked.Replay input') f g bytes text status is = absurd (plan_is_not_replay (sym f.0 ∙ g.0))
-one_asked (Some found) (asked.Replay input) (asked.Plan costs' budget' input') f g bytes text status is = absurd (plan_is_not_replay (sym g.0 ∙ f.0))
-one_asked (Some found) (asked.Certify costs input) (asked.Replay input') f g bytes text status is = absurd (certify_is_not_replay (sym f.0 ∙ g.0))
-one_asked (Some found) (asked.Replay input) (asked.Certify costs' input') f g bytes text status is = absurd (certify_is_not_replay (sym g.0 ∙ f.0))
-one_asked (Some found) (asked.Night how input) (asked.Replay input') f g bytes text status is = absurd (night_is_not_replay (sym f.0 ∙ g.0))
-one_asked (Some found) (asked.Replay input) (asked.Night how' input') f g bytes text status is = absurd (night_is_not_replay (sym g.0 ∙ f.0))
+one_asked found command other f g = alike_asked command other (shown_alike found command other f g)
 
 -- what has one text and one status is one answer
 as_one : (command : Asked) (bytes text other : List ℕ) (status ended : ℕ) → AreSame text status other ended → AreOneAnswer command bytes text status other ended
@@ -247,35 +253,46 @@ one_output (asked.Certify costs input) bytes text other status ended f g = one_c
 one_output (asked.Night how input) bytes text other status ended f g = one_night how.print how.readers bytes text other status ended f g
 one_output (asked.Replay input) bytes text other status ended f g = one_replay bytes text other status ended f g
 
--- two commands that the same words ask for read the same
-file_asked : (name : Text) (options : List Row) (command : Asked) → AsksBy name options command → file_of command ≡ first_of (codes "input") options
-file_asked name options (asked.Check costs input) is = is.1.file
-file_asked name options (asked.Plan costs budget input) is = is.1.file
-file_asked name options (asked.Certify costs input) is = is.1.file
-file_asked name options (asked.Night how input) is = is.2
-file_asked name options (asked.Replay input) is = is.1
+file_shown : (command : Asked) → file_of command ≡ file_in (shown command).1
+file_shown (asked.Check costs input) = refl
+file_shown (asked.Plan costs budget input) = refl
+file_shown (asked.Certify costs input) = refl
+file_shown (asked.Night how input) = refl
+file_shown (asked.Replay input) = refl
 
+-- two commands that the same words ask for read the same
 one_file : (found : Option (Text × List Row)) (command other : Asked) → IsAsked found command → IsAsked found other → file_of other ≡ file_of command
-one_file None command other f g = absurd f
-one_file (Some found) command other f g = file_asked found.0 found.1 other g ∙ sym (file_asked found.0 found.1 command f)
+one_file found command other f g =
+    file_shown other ∙ ap (λ (s : Shown). file_in s.1) (shown_alike found command other f g) ∙ sym (file_shown command)
+
+limit_shown : (command : Asked) → limit_of command ≡ limit_in (shown command)
+limit_shown (asked.Check costs input) = refl
+limit_shown (asked.Plan costs budget input) = refl
+limit_shown (asked.Certify costs input) = refl
+limit_shown (asked.Night how input) = refl
+limit_shown (asked.Replay input) = refl
+
+-- up to the same limit
+one_limit : (found : Option (Text × List Row)) (command other : Asked) → IsAsked found command → IsAsked found other → limit_of other ≡ limit_of command
+one_limit found command other f g = limit_shown other ∙ ap limit_in (shown_alike found command other f g) ∙ sym (limit_shown command)
 
 -- ---- one answer to what was read
 
-one_read : (reading : Reading) (of : List ℕ → List ℕ → ℕ → Type 0) (one : List ℕ → List ℕ → ℕ → List ℕ → ℕ → Type 0) (text other : List ℕ) (status ended : ℕ)
+one_read : (limit : ℕ) (reading : Reading) (of : List ℕ → List ℕ → ℕ → Type 0) (one : List ℕ → List ℕ → ℕ → List ℕ → ℕ → Type 0) (text other : List ℕ) (status ended : ℕ)
     → ((bytes : List ℕ) → AreSame text status other ended → one bytes text status other ended)
     → ((bytes : List ℕ) → of bytes text status → of bytes other ended → one bytes text status other ended)
-    → IsReadAnswer reading of text status → IsReadAnswer reading of other ended → AreOneAnswerTo reading one text status other ended
-one_read Failed of one text other status ended same both f g = one_shown _ text other status ended f g
-one_read (Bytes bytes) of one text other status ended same both (too_long l f) (too_long m g) = same bytes (one_shown _ text other status ended f g)
-one_read (Bytes bytes) of one text other status ended same both (too_long l f) (within m g) = let bad : ⊥ = omega arith in absurd bad
-one_read (Bytes bytes) of one text other status ended same both (within l f) (too_long m g) = let bad : ⊥ = omega arith in absurd bad
-one_read (Bytes bytes) of one text other status ended same both (within l f) (within m g) = both bytes f g
+    → IsReadAnswer limit reading of text status → IsReadAnswer limit reading of other ended → AreOneAnswerTo reading one text status other ended
+one_read limit Failed of one text other status ended same both f g = one_shown _ text other status ended f g
+one_read limit (Bytes bytes) of one text other status ended same both (too_long l f) (too_long m g) = same bytes (one_shown _ text other status ended f g)
+one_read limit (Bytes bytes) of one text other status ended same both (too_long l f) (within m g) = let bad : ⊥ = omega arith in absurd bad
+one_read limit (Bytes bytes) of one text other status ended same both (within l f) (too_long m g) = let bad : ⊥ = omega arith in absurd bad
+one_read limit (Bytes bytes) of one text other status ended same both (within l f) (within m g) = both bytes f g
 
-read_as : (reading : Reading) (of to : List ℕ → List ℕ → ℕ → Type 0) (text : List ℕ) (status : ℕ) → ((bytes : List ℕ) → of bytes text status → to bytes text status)
-    → IsReadAnswer reading of text status → IsReadAnswer reading to text status
-read_as Failed of to text status turn f = f
-read_as (Bytes bytes) of to text status turn (too_long l f) = too_long l f
-read_as (Bytes bytes) of to text status turn (within l f) = within l (turn bytes f)
+read_as : (limit : ℕ) (reading : Reading) (of to : List ℕ → List ℕ → ℕ → Type 0) (text : List ℕ) (status : ℕ) → ((bytes : List ℕ) → of bytes text status → to bytes text status)
+    → IsReadAnswer limit reading of text status → IsReadAnswer limit reading to text status
+read_as limit Failed of to text status turn f = f
+read_as limit (Bytes bytes) of to text status turn (too_long l f) = too_long l f
+read_as limit (Bytes bytes) of to text status turn (within l f) = within l (turn bytes f)
 
 -- ---- words that were handed in
 
@@ -286,22 +303,23 @@ none_refused (x ∷ xs) k e among = cc
 not_refused : (words : List (List ℕ)) (status : ℕ) → words_fault words ≡ [] → IsRefused words status → ⊥
 not_refused words status taken is = none_refused _ is.kind taken is.found
 
-from_reader : (file : Option (List ℕ)) (reading : Reading) (of : List ℕ → List ℕ → ℕ → Type 0) (text : List ℕ) (status : ℕ) → file ≡ None
-    → IsSourceAnswer file reading of text status → IsReadAnswer reading of text status
-from_reader None reading of text status e is = is
-from_reader (Some path) reading of text status e is = let bad : ⊥ = cc in absurd bad
+from_reader : (limit : ℕ) (file : Option (List ℕ)) (reading : Reading) (of : List ℕ → List ℕ → ℕ → Type 0) (text : List ℕ) (status : ℕ) → file ≡ None
+    → IsSourceAnswer limit file reading of text status → IsReadAnswer limit reading of text status
+from_reader limit None reading of text status e is = is
+from_reader limit (Some path) reading of text status e is = let bad : ⊥ = cc in absurd bad
 
 -- the answer is that of the command that the words ask for
 handed : (words : List (List ℕ)) (command : Asked) (reading : Reading) (text : List ℕ) (status : ℕ) → AskFor words command → ReadsInput command
-    → IsHandedOutput words reading text status → IsReadAnswer reading (IsCommandOutput command) text status
+    → IsHandedOutput words reading text status → IsReadAnswer (limit_of command) reading (IsCommandOutput command) text status
 handed words command reading text status ask reads (refused refusal) = absurd (not_refused words status ask.taken refusal)
 handed words command reading text status ask reads (answered other again is) =
-    read_as reading (IsCommandOutput other) (IsCommandOutput command) text status (λ bytes. one_asked _ command other ask.asked again.asked bytes text status)
-    (from_reader (file_of other) reading (IsCommandOutput other) text status (one_file _ command other ask.asked again.asked ∙ reads) is)
+    read_as (limit_of command) reading (IsCommandOutput other) (IsCommandOutput command) text status (λ bytes. one_asked _ command other ask.asked again.asked bytes text status)
+    (subst (λ limit. IsReadAnswer limit reading (IsCommandOutput other) text status) (one_limit _ command other ask.asked again.asked)
+    (from_reader (limit_of other) (file_of other) reading (IsCommandOutput other) text status (one_file _ command other ask.asked again.asked ∙ reads) is))
 
 pub one_handed : OneHandedOutput
 one_handed words command reading text other status ended ask reads f g =
-    one_read reading (IsCommandOutput command) (AreOneAnswer command) text other status ended
+    one_read (limit_of command) reading (IsCommandOutput command) (AreOneAnswer command) text other status ended
     (λ bytes. as_one command bytes text other status ended)
     (λ bytes. one_output command bytes text other status ended)
     (handed words command reading text status ask reads f)
@@ -321,15 +339,22 @@ one_words input text other status ended (answered c ask f) (answered d again g) 
 
 one_line_answer : (input text other : List ℕ) (status ended : ℕ) → IsLineAnswer input text status → IsLineAnswer input other ended → AreOneLineAnswer input text status other ended
 one_line_answer input text other status ended (not_text u f s) (not_text u' g e) = inl (record { texts = f ∙ sym g; statuses = s ∙ sym e })
-one_line_answer input text other status ended (not_text u f s) (names_a_file u' n g e) = let bad : false ≡ true = sym u ∙ u' in cc
-one_line_answer input text other status ended (not_text u f s) (of_words u' n g) = let bad : false ≡ true = sym u ∙ u' in cc
+one_line_answer input text other status ended (not_text u f s) (names_a_file u' n' g e) = let bad : false ≡ true = sym u ∙ u' in cc
+one_line_answer input text other status ended (not_text u f s) (names_a_limit u' n' m' g e) = let bad : false ≡ true = sym u ∙ u' in cc
+one_line_answer input text other status ended (not_text u f s) (of_words u' n' m' g) = let bad : false ≡ true = sym u ∙ u' in cc
 one_line_answer input text other status ended (names_a_file u n f s) (not_text u' g e) = let bad : false ≡ true = sym u' ∙ u in cc
 one_line_answer input text other status ended (names_a_file u n f s) (names_a_file u' n' g e) = inl (record { texts = f ∙ sym g; statuses = s ∙ sym e })
-one_line_answer input text other status ended (names_a_file u n f s) (of_words u' n' g) = let bad : true ≡ false = sym n ∙ n' in cc
-one_line_answer input text other status ended (of_words u n f) (not_text u' g e) = let bad : false ≡ true = sym u' ∙ u in cc
-one_line_answer input text other status ended (of_words u n f) (names_a_file u' n' g e) = let bad : true ≡ false = sym n' ∙ n in cc
-one_line_answer input text other status ended (of_words u n f) (of_words u' n' g) = one_words input text other status ended f g
+one_line_answer input text other status ended (names_a_file u n f s) (names_a_limit u' n' m' g e) = let bad : true ≡ false = sym n ∙ n' in cc
+one_line_answer input text other status ended (names_a_file u n f s) (of_words u' n' m' g) = let bad : true ≡ false = sym n ∙ n' in cc
+one_line_answer input text other status ended (names_a_limit u n m f s) (not_text u' g e) = let bad : false ≡ true = sym u' ∙ u in cc
+one_line_answer input text other status ended (names_a_limit u n m f s) (names_a_file u' n' g e) = let bad : true ≡ false = sym n' ∙ n in cc
+one_line_answer input text other status ended (names_a_limit u n m f s) (names_a_limit u' n' m' g e) = inl (record { texts = f ∙ sym g; statuses = s ∙ sym e })
+one_line_answer input text other status ended (names_a_limit u n m f s) (of_words u' n' m' g) = let bad : true ≡ false = sym m ∙ m' in cc
+one_line_answer input text other status ended (of_words u n m f) (not_text u' g e) = let bad : false ≡ true = sym u' ∙ u in cc
+one_line_answer input text other status ended (of_words u n m f) (names_a_file u' n' g e) = let bad : true ≡ false = sym n' ∙ n in cc
+one_line_answer input text other status ended (of_words u n m f) (names_a_limit u' n' m' g e) = let bad : true ≡ false = sym m' ∙ m in cc
+one_line_answer input text other status ended (of_words u n m f) (of_words u' n' m' g) = one_words input text other status ended f g
 
 pub one_line : OneInputOutput
 one_line reading text other status ended f g =
-    one_read reading IsLineAnswer AreOneLineAnswer text other status ended (λ bytes same. inl same) (λ bytes. one_line_answer bytes text other status ended) f g
+    one_read usual_limit reading IsLineAnswer AreOneLineAnswer text other status ended (λ bytes same. inl same) (λ bytes. one_line_answer bytes text other status ended) f g

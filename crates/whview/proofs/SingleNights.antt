@@ -33,7 +33,7 @@ use Rattle.wh_carry.specs.declared.report.CarryFault.{CarryFault}
 use Rattle.wh_row.specs.Bag.{Bag, difference_of, empty}
 use Rattle.wh_night.proofs.OneRefusal.{one_refusal as nights_have_one_refusal}
 use Rattle.wh_night.specs.Refusals.{IsRefusedSo, left_of}
-use Rattle.wh_night.specs.declared.left.Left.TheVariants.{Untouched}
+use Rattle.wh_night.specs.declared.left.Aftermath.TheVariants.{Untouched}
 use Rattle.wh_night.specs.Serving.{rows_of}
 use Rattle.wh_strategy.proofs.Agreeing.{refused as not_correct}
 use Rattle.wh_strategy.specs.Rules.{IsCorrect}

@@ -28,7 +28,7 @@ IsLeastOfAll costs claim =
     (other : List Expression) → IsCorrect claim.measured.shape.children other
     → claim.plan.work ≤ work_of claim.measured.shape.children (sizes_of claim.measured.sizes) (prices_of costs) other
 
--- no correct one-way strategy does
+-- no correct one-way strategy costs less than the plan's work
 abbrev pub IsLeastOneWay : Costs → Claim → Type 0
 IsLeastOneWay costs claim =
     (other : List Expression) → IsCorrect claim.measured.shape.children other → IsOneWay other
@@ -47,7 +47,7 @@ verdict_text work All = line (codes "certified all work " ++ decimal work)
 verdict_text work OneWay = line (codes "certified one-way work " ++ decimal work)
 verdict_text work (Rejected place) = line (codes "rejected at " ++ decimal place)
 
--- and the status
+-- the status of this verdict
 abbrev pub verdict_status : Verdict → Status
 verdict_status All = Done
 verdict_status OneWay = Done
@@ -77,7 +77,7 @@ text_of (Broken rule place) = broken_text rule place
 text_of OtherWork = line (codes "rejected work")
 text_of (Judged work verdict) = verdict_text work verdict
 
--- and the status
+-- the status of what was decided
 abbrev pub status_of : Outcome → Status
 status_of (Broken rule place) = Negative
 status_of OtherWork = Negative

@@ -22,7 +22,7 @@ line text = text ++ 10 ∷ []
 abbrev pub correct_text : ℕ → List ℕ
 correct_text work = line (codes "correct") ++ line (codes "work " ++ decimal work)
 
--- what is printed of one that breaks this rule at this place
+-- what is printed of a strategy that breaks this rule at this place
 abbrev pub broken_text : Rule → ℕ → List ℕ
 broken_text rule place = line (codes "broken S" ++ decimal (number_of rule) ++ codes " at " ++ decimal place)
 
@@ -42,7 +42,7 @@ abbrev pub text_of : Outcome → List ℕ
 text_of (Correct work) = correct_text work
 text_of (Broken rule place) = broken_text rule place
 
--- and the status
+-- the status of what was decided
 abbrev pub status_of : Outcome → Status
 status_of (Correct work) = Done
 status_of (Broken rule place) = Negative

@@ -9,7 +9,7 @@ use Rattle.whview.specs.declared.command_line.fault.CommandFault.TheVariants as 
 use Rattle.whview.specs.declared.status.Status.{Status}
 use Rattle.whview.specs.declared.status.Status.TheVariants.{Done, Limit, Words}
 
--- done for help that is asked for, and else why not
+-- the status of a fault of the words: done for help that is asked for, else as the fault is
 abbrev pub status_of : CommandFault → Status
 status_of (fault.Help text) = Done
 status_of (fault.Refused text) = Words
@@ -21,7 +21,7 @@ text_of (fault.Help text) = Some (string_bytes text)
 text_of (fault.Refused text) = Some (string_bytes text)
 text_of fault.Memory = None
 
--- the same statuses, of the kinds of fault that a parse of words knows
+-- the status of a kind of fault that a parse of words knows
 abbrev pub status_of_kind : ErrorKind → Status
 status_of_kind kind.DisplayHelp = Done
 status_of_kind kind.OutOfMemory = Limit

@@ -27,3 +27,8 @@ words_in line = filter (λ word. not (length word == 0)) (slice_split is_space l
 abbrev pub names_input : List ℕ → Bool
 names_input word =
     bytes_eq word (codes "--input") || starts_with nat_eq word (codes "--input=")
+
+-- the word is `--most`, or begins with `--most=`
+abbrev pub names_most : List ℕ → Bool
+names_most word =
+    bytes_eq word (codes "--most") || starts_with nat_eq word (codes "--most=")

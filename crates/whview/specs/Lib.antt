@@ -2,6 +2,7 @@ pub mod CertifyOutput
 pub mod CheckOutput
 pub mod CommandFault
 pub mod CommandLine
+pub mod CommandTaken
 pub mod FirstLine
 pub mod NightOutput
 pub mod OneAnswer

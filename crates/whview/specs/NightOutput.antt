@@ -41,7 +41,7 @@ use Rattle.whview.specs.declared.status.Status.TheVariants.{Done, Negative}
 
 -- ---- texts
 
--- an expression and its rows
+-- the line of an expression: the expression and its rows
 abbrev pub step_text : List (List ℕ) → Expression × ℕ → List ℕ
 step_text names step = line (expression_text names step.0 ++ codes ": " ++ decimal step.1)
 
@@ -49,7 +49,7 @@ step_text names step = line (expression_text names step.0 ++ codes ": " ++ decim
 abbrev pub work_in : List (Expression × ℕ) → ℕ
 work_in steps = capped (sum_by (λ step. step.1) steps)
 
--- the steps, their work and the new version
+-- the report: the steps, their work and the new version
 abbrev pub report_text : List (List ℕ) → List (Expression × ℕ) → List ℕ
 report_text names steps = flat_map (step_text names) steps ++ line (codes "work " ++ decimal (work_in steps)) ++ line (codes "version " ++ decimal 1)
 
@@ -58,7 +58,7 @@ abbrev pub word_of : Printed → List ℕ
 word_of Tables = codes "view "
 word_of Changes = codes "changes "
 
--- this of a derived view under what it is and its name, written as a table is; of a base view nothing
+-- what is printed of a derived view, written as a table is, under what it is and its name; of a base view nothing
 abbrev pub view_text : List ℕ → Texts → List ℕ → ViewOf → Bag → List ℕ
 view_text word texts name view rows = of_definition view.definition
   where
@@ -66,40 +66,40 @@ view_text word texts name view rows = of_definition view.definition
     of_definition None = []
     of_definition (Some definition) = line (word ++ name) ++ table_text view.columns texts rows
 
--- this of each derived view, in the order of their numbers, the first view having this number
+-- what is printed of the derived views, in the order of their numbers, the first view having this number
 abbrev pub views_text : List ℕ → Texts → List (List ℕ) → ℕ → List ViewOf → (ℕ → Bag) → List ℕ
 views_text word texts names number [] rows = []
 views_text word texts names number (view ∷ views) rows =
     view_text word texts (name_of names number) view (rows number) ++ views_text word texts names (number + 1) views rows
 
--- What is printed of a view: its new table, or its change, in which each row counts what it counts in the new table less what it counts
--- in the old one. Added to the old table the change is the new one.
+-- What is printed of a view: its new table, or its change. In the change each row counts what it counts in the new table less what it
+-- counts in the old one. Added to the old table the change is the new one.
 abbrev pub rows_printed : Printed → (ℕ → Bag) → (ℕ → Bag) → ℕ → Bag
 rows_printed Tables old new view = new view
 rows_printed Changes old new view = difference_of (new view) (old view)
 
--- a night that was carried out in these steps, from the old tables to the new ones
+-- what is printed of a night that was carried out in these steps, from the old tables to the new ones
 abbrev pub carried_text : Printed → Night → List (Expression × ℕ) → (ℕ → Bag) → (ℕ → Bag) → List ℕ
 carried_text printed night steps old new =
     report_text night.shape.names steps
     ++ views_text (word_of printed) night.opening.texts night.shape.names 0 night.opening.views (rows_printed printed old new)
 
--- what is refused, and of which view
+-- what is printed of a refusal: what is refused, and of which view
 abbrev pub refused_text : List (List ℕ) → MaintFault → List ℕ
 refused_text names (Large view) = line (codes "refused large " ++ name_of names view)
 refused_text names (Range view) = line (codes "refused range " ++ name_of names view)
 refused_text names (Absent view row) = line (codes "refused absent " ++ name_of names view)
 refused_text names Memory = line (codes "memory")
 
--- a night that was refused: whether it had begun
+-- what is printed of a night that was refused: the refusal, and whether the night had begun
 abbrev pub left_text : List (List ℕ) → CarryFault → List ℕ
 left_text names refused = refused_text names refused.fault ++ cond refused.started (line (codes "left given-up")) (line (codes "left untouched"))
 
--- how many rows a reader was given of the contents of before, which are version 0
+-- the line of a reader: how many rows it was given of the contents of before, which are version 0
 abbrev pub reader_text : ℕ → ℕ → List ℕ
 reader_text reader rows = line (codes "reader " ++ decimal reader ++ codes " version 0 rows " ++ decimal rows)
 
--- how many rows each reader was given, the first having this number
+-- the lines of the readers, the first having this number
 abbrev pub readers_text : ℕ → List ℕ → List ℕ
 readers_text reader [] = []
 readers_text reader (rows ∷ others) = reader_text reader rows ++ readers_text (reader + 1) others
@@ -120,9 +120,9 @@ pub record AreOpened (shape : Views) (opening : Opening) (tables : List Bag) : T
   pub opened : (view : ℕ) → view < length shape.children → bag_at tables view ≡ contents (graph_over shape opening) (bag_at opening.tables) view
   pub valued : HaveContentsBelow (graph_over shape opening) (bag_at opening.tables) (length shape.children)
 
--- The strategy, carried out from the contents of the base that was read, makes these tables in these steps, and nothing in it
--- is refused. The tables are the contents of the base with its changes, whatever the strategy is, so that each derived view has
--- a value there, which is also of at most 2^56 combined rows.
+-- The strategy, carried out from the contents of the base that was read, makes these tables in these steps, and nothing in it is refused.
+-- The tables are the contents of the base with its changes, whatever the strategy is. So each derived view has a value there, which is also
+-- of at most 2^56 combined rows.
 pub record IsCarriedOut (night : Night) (old new : List Bag) (steps : List (Expression × ℕ)) : Type 0 where
   pub opened : AreOpened night.shape night.opening old
   pub allowed : AreAllowedBelow (catalog_in night) (bag_at old) (bag_at night.given.changes) (length night.shape.children)
@@ -140,7 +140,7 @@ pub record IsCarriedOut (night : Night) (old new : List Bag) (steps : List (Expr
 abbrev pub AtDerived : List ViewOf → (ℕ → Type 0) → Type 0
 AtDerived views P = (number : ℕ) → IfSome (slice_get views number) (λ view. view.definition ≢ None → P number)
 
--- this is shown where so much is to be printed
+-- this is what is shown of the derived views, where tables or changes are to be printed
 abbrev pub IsShownAs : Printed → List ViewOf → (ℕ → Bag) → (ℕ → Bag) → Shown → Type 0
 IsShownAs Tables views old new shown = shown ≡ NewTables
 IsShownAs Changes views old new NewTables = ⊥
@@ -160,8 +160,8 @@ pub record IsShownFrom (night : Night) (printed : Printed) (readers : ℕ) (view
 abbrev pub night_from : Night → List Bag → ℕ → NightFrom
 night_from night old keys = record { catalog = catalog_in night; list = night.given.list; tables = bag_at old; changes = bag_at night.given.changes; keys = keys }
 
--- a night from these contents is refused for this, whatever the number of rows an operation: by its base changes before it begins, or, wave
--- by wave, once it has begun
+-- A night from these contents is refused for this, whatever the number of rows an operation. It is refused by its base changes before it
+-- begins, or, wave by wave, once it has begun
 abbrev pub IsRefusedAs : Night → List Bag → CarryFault → Type 0
 IsRefusedAs night old fault = (keys : ℕ) → IsRefusedSo (night_from night old keys) (left_of fault.started) fault.fault
 
@@ -194,7 +194,7 @@ text_of names (Refused fault) = left_text names fault
 text_of names (Carried views texts carried shown) =
     (report_text names carried.report.steps.items ++ shown_text shown texts names (map shown_view views.items) carried.tables.items) ++ readers_text 0 carried.rows.items
 
--- and the status
+-- the status of what was decided
 abbrev pub status_of : Outcome → Status
 status_of (Broken rule place) = Negative
 status_of (NoContents fault) = Negative
@@ -203,8 +203,8 @@ status_of (Carried views texts carried shown) = Done
 
 -- ---- what is printed
 
--- What is printed of a night, so much of it and beside so many readers, and the status. A night is refused for the first reason that its base changes, and
--- then its waves and Insts, meet; want of memory is told as such and is none of these.
+-- What is printed of a night, so much of it and beside so many readers, and the status. A night is refused for the first reason that its
+-- base changes, and then its waves and Insts, meet. Want of memory is told as such and is none of these.
 pub data IsNightTold (night : Night) (printed : Printed) (readers : ℕ) (text : List ℕ) (status : ℕ) : Type 0 where
   broken : (rule : Rule) (place : ℕ) → IsFirstBroken night.shape.children night.given.list rule place → text ≡ broken_text rule place → status ≡ 1 → IsNightTold night printed readers text status
   no_contents : (fault : MaintFault) → IsCorrect night.shape.children night.given.list → HasNoContents (graph_in night) (bag_at night.opening.tables) fault
@@ -216,7 +216,7 @@ pub data IsNightTold (night : Night) (printed : Printed) (readers : ℕ) (text :
       → text ≡ carried_text printed night steps (bag_at old) (bag_at new) ++ readers_text 0 (replicate readers (rows_of old)) → status ≡ 0
       → IsNightTold night printed readers text status
 
--- what `night`, of which so much is printed, beside so many readers prints for a bundle's bytes, and the status
+-- what `night` prints for a bundle's bytes, where so much is printed of the views, beside so many readers; and the status
 abbrev pub IsNightOutput : Printed → ℕ → List ℕ → List ℕ → ℕ → Type 0
 IsNightOutput printed readers bytes text status =
     MatchResult (night_read bytes) (λ night. IsNightTold night printed readers text status) (λ fault. IsFaultShown fault text status)

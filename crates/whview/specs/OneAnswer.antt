@@ -1,4 +1,5 @@
--- That there is one answer at most: what the texts and statuses that are allowed for the same words and bytes have in common.
+-- That there is one answer at most: what the texts and statuses that are allowed for one list of words and one list of bytes have in
+-- common.
 use Rattle.std.specs.Prelude.{◌≡◌, ◌⊎◌, ℕ, ◌+◌, ◌^◌, ◌<◌, ◌≤◌, List, length, Ok}
 use Rattle.wh_cert.specs.declared.certificate.Certificate.{Certificate}
 use Rattle.wh_cert.specs.declared.certificate.Certificate.TheVariants.{Search}
@@ -100,8 +101,8 @@ abbrev pub AreOneAnswerTo : Reading → (List ℕ → List ℕ → ℕ → List 
 AreOneAnswerTo (Bytes bytes) one text status other ended = one bytes text status other ended
 AreOneAnswerTo Failed one text status other ended = AreSame text status other ended
 
--- What two answers for the same bytes have in common, where their first line gives the words: one text and one status, or what
--- two answers of the command have that the words ask for, or `clap` refuses the words or answers them with help.
+-- What two answers for the same bytes have in common, where their first line gives the words. They have one text and one status, or what
+-- two answers of the command have that the words ask for. Or `clap` refuses the words or answers them with help.
 abbrev pub AreOneLineAnswer : List ℕ → List ℕ → ℕ → List ℕ → ℕ → Type 0
 AreOneLineAnswer input text status other ended =
     AreSame text status other ended
@@ -120,14 +121,14 @@ OneCertifyOutput =
     (costs : Costs) (bytes text other : List ℕ) (status ended : ℕ) →
     IsCertifyOutput costs bytes text status → IsCertifyOutput costs bytes other ended → AreSame text status other ended
 
--- all answers of `plan` for the same bytes, at the same costs and with the same budget, are one, but for the lists of plans, the
--- trees of one-way ones, and what a budget comes to
+-- All answers of `plan` for the same bytes, at the same costs and with the same budget, are one. Left out are the lists of plans, the trees
+-- of one-way ones, and what a budget comes to
 abbrev pub OnePlanOutput : Type 0
 OnePlanOutput =
     (costs : Costs) (budget : ℕ) (bytes text other : List ℕ) (status ended : ℕ) →
     IsPlanOutput costs budget bytes text status → IsPlanOutput costs budget bytes other ended → AreOnePlan budget bytes text status other ended
 
--- all nights of the same bytes, of which so much is printed, beside so many readers have one text and one status
+-- all nights of the same bytes that print tables, or print changes, beside so many readers have one text and one status
 abbrev pub OneNightOutput : Type 0
 OneNightOutput =
     (printed : Printed) (readers : ℕ) (bytes text other : List ℕ) (status ended : ℕ) →

@@ -9,8 +9,8 @@ use Rattle.wh_text_bundle.specs.declared.read.ReadFault.TheVariants.{Read, TooLo
 use Rattle.whview.specs.CertifyOutput.{IsCertifyOutput}
 use Rattle.whview.specs.CheckOutput.{IsCheckOutput, IsFaultShown, line}
 use Rattle.whview.specs.CommandFault.{status_of_kind}
-use Rattle.whview.specs.CommandLine.{IsAsked, whview_app, words_fault}
-use Rattle.whview.specs.FirstLine.{first_line_of, after_first_line, words_in, names_input}
+use Rattle.whview.specs.CommandLine.{IsAsked, usual_limit, whview_app, words_fault}
+use Rattle.whview.specs.FirstLine.{first_line_of, after_first_line, words_in, names_input, names_most}
 use Rattle.whview.specs.NightOutput.{IsNightOutput}
 use Rattle.whview.specs.PlanOutput.{IsPlanOutput}
 use Rattle.whview.specs.ReplayOutput.{IsReplayOutput}
@@ -33,8 +33,14 @@ abbrev pub file_of : Asked → Option (List ℕ)
 file_of (asked.Check costs input) = option_map (λ path. path.now) input
 file_of (asked.Plan costs budget input) = option_map (λ path. path.now) input
 file_of (asked.Certify costs input) = option_map (λ path. path.now) input
-file_of (asked.Night how input) = option_map (λ path. path.now) input
-file_of (asked.Replay input) = option_map (λ path. path.now) input
+file_of (asked.Night how input) = option_map (λ path. path.now) input.file
+file_of (asked.Replay input) = option_map (λ path. path.now) input.file
+
+-- the most bytes that the input of the command may have
+abbrev pub limit_of : Asked → ℕ
+limit_of (asked.Night how input) = input.limit
+limit_of (asked.Replay input) = input.limit
+limit_of _ = usual_limit
 
 -- the command reads the program's reader
 abbrev pub ReadsInput : Asked → Type 0
@@ -42,7 +48,7 @@ ReadsInput command = file_of command ≡ None
 
 -- ---- answers
 
--- that memory was refused is told
+-- it is told that memory was refused
 pub record IsMemoryTold (text : List ℕ) (status : ℕ) : Type 0 where
   pub printed : text ≡ line (codes "memory")
   pub ended : status ≡ 4
@@ -60,7 +66,7 @@ abbrev pub IsReadingOf : Option (List ℕ) → ℕ → ℕ → Reading → Type 
 IsReadingOf known before after (Bytes bytes) = IfSome known (λ all. bytes ≡ all) × (after ≡ before)
 IsReadingOf known before after Failed = before < after
 
--- this holds of what was read of such a reader
+-- this holds of what was read of a reader of which these bytes are known, with so many failed reads before and after
 abbrev pub HoldsOfReading : Option (List ℕ) → ℕ → ℕ → (Reading → Type 0) → Type 0
 HoldsOfReading known before after P = (reading : Reading) × IsReadingOf known before after reading × P reading
 
@@ -69,15 +75,15 @@ HoldsOfReading known before after P = (reading : Reading) × IsReadingOf known b
 abbrev pub HoldsOfFile : (Reading → Type 0) → Type 0
 HoldsOfFile P = (reading : Reading) × P reading
 
--- what is printed for these bytes, and the status: more than 67,108,864 are a fault, and for others it is this
-pub data IsLimited (bytes : List ℕ) (of : List ℕ → ℕ → Type 0) (text : List ℕ) (status : ℕ) : Type 0 where
-  too_long : 67108864 < length bytes → IsFaultShown fault.TooLong text status → IsLimited bytes of text status
-  within : length bytes ≤ 67108864 → of text status → IsLimited bytes of text status
+-- what is printed for these bytes, and the status: more than the limit are a fault, and for others it is this
+pub data IsLimited (limit : ℕ) (bytes : List ℕ) (of : List ℕ → ℕ → Type 0) (text : List ℕ) (status : ℕ) : Type 0 where
+  too_long : limit < length bytes → IsFaultShown fault.TooLong text status → IsLimited limit bytes of text status
+  within : length bytes ≤ limit → of text status → IsLimited limit bytes of text status
 
--- what is printed for what was read, and the status, where this is printed for bytes
-abbrev pub IsReadAnswer : Reading → (List ℕ → List ℕ → ℕ → Type 0) → List ℕ → ℕ → Type 0
-IsReadAnswer (Bytes bytes) of text status = IsLimited bytes (of bytes) text status
-IsReadAnswer Failed of text status = IsFaultShown fault.Read text status
+-- what is printed for what was read up to a limit, and the status, where this is printed for bytes
+abbrev pub IsReadAnswer : ℕ → Reading → (List ℕ → List ℕ → ℕ → Type 0) → List ℕ → ℕ → Type 0
+IsReadAnswer limit (Bytes bytes) of text status = IsLimited limit bytes (of bytes) text status
+IsReadAnswer limit Failed of text status = IsFaultShown fault.Read text status
 
 -- ---- what words ask for
 
@@ -99,15 +105,15 @@ pub data IsWordsAnswer (words : List (List ℕ)) (of : Asked → List ℕ → �
 
 -- ---- words that were handed in
 
--- what is printed where this was read of the program's reader; of a file, where one is named, anything may have been
-abbrev pub IsSourceAnswer : Option (List ℕ) → Reading → (List ℕ → List ℕ → ℕ → Type 0) → List ℕ → ℕ → Type 0
-IsSourceAnswer None reading of text status = IsReadAnswer reading of text status
-IsSourceAnswer (Some path) reading of text status = HoldsOfFile (λ own. IsReadAnswer own of text status)
+-- what is printed where this was read of the program's reader up to a limit; of a file, where one is named, anything may have been
+abbrev pub IsSourceAnswer : ℕ → Option (List ℕ) → Reading → (List ℕ → List ℕ → ℕ → Type 0) → List ℕ → ℕ → Type 0
+IsSourceAnswer limit None reading of text status = IsReadAnswer limit reading of text status
+IsSourceAnswer limit (Some path) reading of text status = HoldsOfFile (λ own. IsReadAnswer limit own of text status)
 
 -- what the program prints for words that were handed in, and the status, where this was read of its reader
 abbrev pub IsHandedOutput : List (List ℕ) → Reading → List ℕ → ℕ → Type 0
 IsHandedOutput words reading text status =
-    IsWordsAnswer words (λ command. IsSourceAnswer (file_of command) reading (IsCommandOutput command)) text status
+    IsWordsAnswer words (λ command. IsSourceAnswer (limit_of command) (file_of command) reading (IsCommandOutput command)) text status
 
 -- the words ask for a command that reads the program's reader
 abbrev pub AskToRead : List (List ℕ) → Type 0
@@ -120,9 +126,14 @@ pub data IsLineAnswer (input text : List ℕ) (status : ℕ) : Type 0 where
   not_text : is_utf8 (first_line_of input) ≡ false → text ≡ line (codes "fault words") → status ≡ 2 → IsLineAnswer input text status
   names_a_file : is_utf8 (first_line_of input) ≡ true → list_any names_input (words_in (first_line_of input)) ≡ true
       → text ≡ line (codes "error: `--input` cannot stand in the words of an input") → status ≡ 2 → IsLineAnswer input text status
+  names_a_limit : is_utf8 (first_line_of input) ≡ true → list_any names_input (words_in (first_line_of input)) ≡ false
+      → list_any names_most (words_in (first_line_of input)) ≡ true
+      → text ≡ line (codes "error: `--most` cannot stand in the words of an input") → status ≡ 2 → IsLineAnswer input text status
   of_words : is_utf8 (first_line_of input) ≡ true → list_any names_input (words_in (first_line_of input)) ≡ false
+      → list_any names_most (words_in (first_line_of input)) ≡ false
       → IsWordsAnswer (words_in (first_line_of input)) (λ command. IsCommandOutput command (after_first_line input)) text status → IsLineAnswer input text status
 
--- what the program prints where it is handed no words, and the status, where this was read of its reader
+-- What the program prints where it is handed no words, and the status, where this was read of its reader. As it is read before its words
+-- are known, the limit is the usual one.
 abbrev pub IsInputOutput : Reading → List ℕ → ℕ → Type 0
-IsInputOutput reading text status = IsReadAnswer reading IsLineAnswer text status
+IsInputOutput reading text status = IsReadAnswer usual_limit reading IsLineAnswer text status

@@ -35,7 +35,7 @@ PrintedPlanIsReadBack =
     measured_of bytes ≡ Ok measured → IsLeastFor (prices_of costs) measured work scope list certificate →
     plan_of measured.shape.names (plan_text measured.shape.names scope work list certificate) ≡ Ok (plan_with scope work list certificate)
 
--- and such a plan for these views and sizes is certified at the same costs
+-- a plan of least work for these views and sizes, with its certificate, is certified at the same costs
 abbrev pub LeastPlanIsCertified : Type 0
 LeastPlanIsCertified =
     (costs : Costs) (measured : Measured) (work : ℕ) (scope : Scope) (list : List Expression) (certificate : Certificate) →
@@ -58,8 +58,8 @@ EndsLine bytes = (before : List ℕ) × (bytes ≡ before ++ 10 ∷ [])
 abbrev pub HasNoPlan : List ℕ → Type 0
 HasNoPlan bytes = found heading.Plan 0 (parts_of bytes) ≡ None
 
--- A plan for what the bytes of a bundle say, which this text is, is read in another bundle as it was, and certified there at the same
--- costs for its scope.
+-- This text is a plan for what the bytes of a bundle say. It is read in another bundle as it was, and certified there at the same costs for
+-- its scope.
 pub record IsReadBackIn (costs : Costs) (bytes text bundle : List ℕ) : Type 0 where
   pub measured : Measured
   pub work : ℕ
@@ -72,8 +72,8 @@ pub record IsReadBackIn (costs : Costs) (bytes text bundle : List ℕ) : Type 0 
   pub read : claim_of bundle ≡ Ok (claim_with measured (plan_with scope work list certificate))
   pub certified : IsCertifyOutput costs bundle (accepted_text scope work) 0
 
--- so of each bundle that ends with a line's end and has no `@plan`: where `plan` prints a plan for it, the same bundle with that text
--- under `@plan` gives that plan, and `certify` accepts it
+-- In each bundle that ends with a line's end and has no `@plan`, the text that `plan` prints for it is put under `@plan`. That bundle gives
+-- that plan, and `certify` accepts it
 abbrev pub PrintedPlanIsCertified : Type 0
 PrintedPlanIsCertified =
     (costs : Costs) (budget : ℕ) (bytes text : List ℕ) → EndsLine bytes → HasNoPlan bytes → IsPlanOutput costs budget bytes text 0 →

@@ -29,8 +29,8 @@ GoesByOrderFor measured scope list = GoesByOrder measured.shape.children (sizes_
 abbrev pub spent_text : ℕ → ℕ → List ℕ
 spent_text opened best = line (codes "budget opened " ++ decimal opened ++ codes " best " ++ decimal best)
 
--- What is printed for this, and the status: a plan of least work, whose tree, if it has one, has no more nodes than the budget; or
--- that the search for one has spent its budget, which takes an ordered graph with a cycle.
+-- What is printed for this, and the status. It is a plan of least work, whose tree, if it has one, has no more nodes than the budget. Or it
+-- is that the search for one has spent its budget, which takes an ordered graph with a cycle.
 pub data IsPlanned (prices : Prices) (budget : ℕ) (measured : Measured) (text : List ℕ) (status : ℕ) : Type 0 where
   planned : (work : ℕ) (scope : Scope) (list : List Expression) (certificate : Certificate) → IsLeastFor prices measured work scope list certificate
       → GoesByOrderFor measured scope list → IsWithinBudget budget certificate → text ≡ plan_text measured.shape.names scope work list certificate → status ≡ 0 → IsPlanned prices budget measured text status
@@ -38,7 +38,7 @@ pub data IsPlanned (prices : Prices) (budget : ℕ) (measured : Measured) (text 
       → IsSpent measured.shape.children (sizes_of measured.sizes) prices budget opened best
       → text ≡ spent_text opened best → status ≡ 4 → IsPlanned prices budget measured text status
 
--- this is decided: on a plan of least work, whose tree, if it has one, has no more nodes than the budget; or that the search for one
+-- This is decided: on a plan of least work, whose tree, if it has one, has no more nodes than the budget. Or it is that the search for one
 -- has spent its budget
 abbrev pub IsDecided : Prices → ℕ → Measured → Outcome → Type 0
 IsDecided prices budget measured (Planned plan) =
@@ -53,7 +53,7 @@ abbrev pub text_of : List (List ℕ) → Outcome → List ℕ
 text_of names (Planned plan) = plan_text names plan.scope plan.work plan.correct.list plan.certificate
 text_of names (Spent opened best) = spent_text opened best
 
--- and the status
+-- the status of what was decided
 abbrev pub status_of : Outcome → Status
 status_of (Planned plan) = Done
 status_of (Spent opened best) = Limit

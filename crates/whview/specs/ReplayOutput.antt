@@ -62,13 +62,13 @@ machine_of catalog schedule tables nights = record {
 abbrev pub setup_of : Replay → List Bag → Setup
 setup_of r tables = machine_of (catalog_of r.shape r.opening.views) r.schedule tables (map night_of_machine r.nights)
 
--- its events
+-- the events of what is replayed
 abbrev pub events_of : Replay → List Event
 events_of r = map (event_of (length r.shape.children)) r.schedule.events
 
 -- ---- strategies
 
--- each night's strategy is correct
+-- the strategy of each night is correct
 abbrev pub AreCorrect : List (List ℕ) → List GivenNight → Type 0
 AreCorrect children [] = Unit {0}
 AreCorrect children (night ∷ nights) = IsCorrect children night.list × AreCorrect children nights
@@ -81,13 +81,13 @@ IsFirstBrokenNight children (night ∷ nights) rule place =
 
 -- ---- what is printed
 
--- memory was refused
+-- the reply is that memory was refused
 abbrev pub is_memory : Reply → Bool
 is_memory (reply.Refused cause.Memory) = true
 is_memory _ = false
 
--- What is printed of a replay, and the status. Its replies are those of a legal run from the contents of the base that was read, of a
--- machine that fits together, and come to what they say; want of memory is told as such and is none of these.
+-- What is printed of a replay, and the status. Its replies are those of a legal run, from the contents of the base that was read, of a
+-- machine that fits together. They come to what they say; want of memory is told as such and is none of these.
 pub data IsReplayTold (r : Replay) (text : List ℕ) (status : ℕ) : Type 0 where
   broken : (rule : Rule) (place : ℕ) → IsFirstBrokenNight r.shape.children r.nights rule place → text ≡ broken_text rule place → status ≡ 1 → IsReplayTold r text status
   no_contents : (fault : MaintFault) → AreCorrect r.shape.children r.nights → HasNoContents (graph_of (catalog_of r.shape r.opening.views)) (bag_at r.opening.tables) fault

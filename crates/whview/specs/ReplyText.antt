@@ -11,15 +11,15 @@ use Rattle.whview.specs.CheckOutput.{line}
 
 -- ---- pages
 
--- a cell, as a number
+-- the text of a cell, as a number
 abbrev pub cell_text : ℤ → List ℕ
 cell_text cell = codes " " ++ signed_decimal cell
 
--- a row: its count, and its cells
+-- the text of a row: its count, and its cells
 abbrev pub entry_text : Row × ℤ → List ℕ
 entry_text entry = codes " [" ++ signed_decimal entry.1 ++ flat_map cell_text entry.0 ++ codes "]"
 
--- the rows of a page, and whether none follows
+-- the text of a page: its rows, and whether none follows
 abbrev pub page_text : Shown → List ℕ
 page_text page = codes "page" ++ flat_map entry_text page.rows ++ cond page.last (codes " end") (codes " more")
 
@@ -46,12 +46,12 @@ cause_name cause.Range = codes "Range"
 cause_name cause.Absent = codes "Absent"
 cause_name cause.LastVersion = codes "LastVersion"
 
--- an expired session, the version that is current, and whether a night is open
+-- the text of an expired session: its version, the current version, and whether a night is open
 abbrev pub expired_text : ℕ → ℕ → Bool → List ℕ
 expired_text session current active =
     codes "expired " ++ decimal session ++ codes " current " ++ decimal current ++ cond active (codes " active") (codes " idle")
 
--- a refusal: an expired session with its fields, any other by its name
+-- the text of a refusal: of an expired session with its fields, of any other by its name
 abbrev pub refusal_text : Cause → List ℕ
 refusal_text (cause.Expired session current active) = expired_text session current active
 refusal_text why = codes "refused " ++ cause_name why
@@ -72,6 +72,6 @@ reply_text (reply.Refused why) = refusal_text why
 abbrev pub reply_line : Reply → List ℕ
 reply_line reply = line (reply_text reply)
 
--- a line for each reply
+-- the lines of some replies, one for each
 abbrev pub replies_text : List Reply → List ℕ
 replies_text replies = flat_map reply_line replies

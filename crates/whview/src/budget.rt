@@ -1,8 +1,8 @@
-//! How long a search may go on.
+//! Says how long a search may go on.
 
 ghost use Rattle.std.specs.Prelude.{◌≤◌, ◌<◌, ◌^◌};
 
-/// How many nodes a search may open, 1 to 2^63 - 1.
+/// The number of nodes that a search may open, 1 to 2^63 - 1.
 #[derive(Clone, Copy)]
 pub struct Budget {
     /// The number of nodes.

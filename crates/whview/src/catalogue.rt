@@ -1,4 +1,4 @@
-//! The catalogue of what was read: each formula stored with a closure that answers it.
+//! Makes the catalogue of what was read: each formula stored with a closure that answers it.
 
 ghost use Rattle.std.specs.Prelude.{◌≡◌, ◌++◌, ◌∷◌, [], All, IsTrue, IfOk, OnOk, map, length};
 ghost use Rattle.wh_dag.specs.Catalog.{FitsOutput, IsDefinition};
@@ -178,7 +178,7 @@ fn base_widths(alloc: Global, views: &[WrittenView]) -> Result<Vec<usize>, Alloc
     Ok(widths)
 }
 
-/// The catalogue of these views, each formula stored with what these make of it.
+/// Returns the catalogue of these views, each formula stored with what these make of it.
 pub(crate) fn catalog_with<
     F: RowTest + Drop,
     G: RowValue + Drop,

@@ -1,4 +1,4 @@
-//! The command `certify`: from the bytes of a bundle to the verdict on its plan.
+//! Does the command `certify`: from the bytes of a bundle to the verdict on its plan.
 
 ghost use Rattle.std.specs.Prelude.{◌≡◌, IfOk, codes, decimal};
 ghost use Rattle.wh_load.specs.ReadingShown.{shown_claim};
@@ -10,26 +10,26 @@ use crate::answer::{Answer, broken_text};
 use crate::status::Status;
 use std::alloc::{AllocError, Global};
 use wh_cert::{Verdict, certify};
-use wh_load::{CertifyInput, MeasuredViews, Plan, read_for_certify};
+use wh_load::{CertifyInput, ChunkedText, MeasuredViews, Plan, read_for_certify};
 use wh_strategy::{CheckFault, Costs, Rule, check, work};
 
-/// What is decided of a plan.
+/// The decision on a plan.
 #[derive(Clone, Copy)]
 pub enum Outcome {
-    /// Its strategy breaks a rule.
+    /// The plan's strategy breaks a rule.
     Broken {
-        /// The first that it breaks.
+        /// The first rule that it breaks.
         rule: Rule,
         /// The first place of the list that breaks it, from 1.
         place: usize,
     },
-    /// Its strategy has another work than it says.
+    /// The plan's strategy has another work than the plan says.
     OtherWork,
-    /// Its certificate has this verdict.
+    /// The plan's certificate has this verdict.
     Judged {
         /// The plan's work, in cost times rows by weight.
         work: u128,
-        /// The verdict.
+        /// The verdict on the certificate.
         verdict: Verdict,
     },
 }
@@ -101,9 +101,10 @@ fn decide(alloc: Global, costs: Costs, claim: CertifyInput) -> Result<Outcome, A
     })
 }
 
-/// What `certify` answers for the bytes of a bundle.
+/// Returns what `certify` answers for the bytes of a bundle, at these costs.
+/// Fails for want of memory.
 pub fn answer(alloc: Global, costs: Costs, bytes: &[u8]) -> Result<Answer, AllocError>
-    ensures { IfOk result (λ a. IsCertifyOutput costs bytes.now a.text.items (status_number a.status)) }
+    ensures { IfOk result (λ a. IsCertifyOutput costs bytes.now a.text (status_number a.status)) }
 {
     let claim = match read_for_certify(alloc, bytes) {
         Ok(claim) => claim,
@@ -112,5 +113,8 @@ pub fn answer(alloc: Global, costs: Costs, bytes: &[u8]) -> Result<Answer, Alloc
     let outcome = decide(alloc, costs, claim)?;
     let text = outcome.text(alloc)?;
     let status = outcome.status();
-    Ok(Answer { text, status })
+    Ok(Answer {
+        text: ChunkedText::of(text),
+        status,
+    })
 }

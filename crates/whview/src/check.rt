@@ -1,4 +1,4 @@
-//! The command `check`: from the bytes of a bundle to whether its strategy is correct, and its work.
+//! Does the command `check`: from the bytes of a bundle to whether its strategy is correct, and its work.
 
 ghost use Rattle.std.specs.Prelude.{◌≡◌, IfOk, decimal};
 ghost use Rattle.wh_load.specs.ReadingShown.{shown_check};
@@ -8,20 +8,20 @@ ghost use Rattle.whview.specs.Status.{status_number};
 use crate::answer::{Answer, broken_text};
 use crate::status::Status;
 use std::alloc::{AllocError, Global};
-use wh_load::{CheckInput, MeasuredViews, read_for_check};
+use wh_load::{CheckInput, ChunkedText, MeasuredViews, read_for_check};
 use wh_strategy::{CheckFault, Costs, Rule, check, work};
 
-/// What is decided of a strategy.
+/// The decision on a strategy.
 #[derive(Clone, Copy)]
 pub enum Outcome {
-    /// It is correct, and has this work.
+    /// The strategy is correct, and has this work.
     Correct {
         /// The work, in cost times rows by weight.
         work: u128,
     },
-    /// It breaks a rule.
+    /// The strategy breaks a rule.
     Broken {
-        /// The first that it breaks.
+        /// The first rule that it breaks.
         rule: Rule,
         /// The first place of the list that breaks it, from 1.
         place: usize,
@@ -73,9 +73,10 @@ fn decide(alloc: Global, costs: Costs, input: CheckInput) -> Result<Outcome, All
     }
 }
 
-/// What `check` answers for the bytes of a bundle.
+/// Returns what `check` answers for the bytes of a bundle, at these costs.
+/// Fails for want of memory.
 pub fn answer(alloc: Global, costs: Costs, bytes: &[u8]) -> Result<Answer, AllocError>
-    ensures { IfOk result (λ a. IsCheckOutput costs bytes.now a.text.items (status_number a.status)) }
+    ensures { IfOk result (λ a. IsCheckOutput costs bytes.now a.text (status_number a.status)) }
 {
     let input = match read_for_check(alloc, bytes) {
         Ok(input) => input,
@@ -84,5 +85,8 @@ pub fn answer(alloc: Global, costs: Costs, bytes: &[u8]) -> Result<Answer, Alloc
     let outcome = decide(alloc, costs, input)?;
     let text = outcome.text(alloc)?;
     let status = outcome.status();
-    Ok(Answer { text, status })
+    Ok(Answer {
+        text: ChunkedText::of(text),
+        status,
+    })
 }

@@ -1,20 +1,20 @@
-//! What a command line asks for.
+//! Reads what a command line asks for.
 
-ghost use Rattle.std.specs.Prelude.{◌≡◌, ◌≤◌, [], ◌∷◌, Some, true, codes, IfErr, IfOk, MatchResult};
+ghost use Rattle.std.specs.Prelude.{◌≡◌, ◌≤◌, [], ◌∷◌, Some, true, codes, option_map, IfErr, IfOk, MatchResult};
 ghost use Rattle.std.specs.Option.{option_map_or};
 ghost use Rattle.clap.specs.Walk.{texts};
-ghost use Rattle.clap.specs.Words.{found_of, rows_of, subcommand_of, subcommand_rows_of, takes};
+ghost use Rattle.clap.specs.Words.{first_of, found_of, rows_of, subcommand_of, subcommand_rows_of, takes};
 ghost use Rattle.clap.specs.declared.error.kind.ErrorKind.TheVariants.{InvalidValue};
-ghost use Rattle.wh_strategy.specs.Prices.{prices_of};
 ghost use Rattle.whview.specs.CommandFault.{FailsAs};
-ghost use Rattle.whview.specs.CommandLine.{HasNightOptions, IsAsked, budget_of, cost_of, is_printable, number_in, prices_in, print_fault, printed_in, printed_of, whview_app, words_fault};
-ghost use Rattle.whview.specs.Inner.CommandLine.{NamesCommand, TakesBudget, TakesCost, TakesCosts, TakesNightOptions, TakesNumber};
+ghost use Rattle.whview.specs.CommandLine.{Amount, File, IsAsked, Number, OfFile, OfNumber, OfPrint, Print, is_printable, print_fault, usual_limit, whview_app, words_fault, worth};
+ghost use Rattle.whview.specs.Inner.CommandLine.{Fits, NamesCommand};
 
 mod builder;
 mod fault;
 mod notes;
 
 use crate::budget::Budget;
+use crate::data_input::{DataInput, USUAL_LIMIT};
 use crate::night_options::{NightOptions, Printed};
 use builder::whview_command;
 use clap::ArgMatches;
@@ -42,44 +42,44 @@ const DEFAULT_PAGE_KEYS: usize = 256;
 pub enum Asked<'a> {
     /// Judge the strategy and give its work.
     Check {
-        /// What a row costs.
+        /// The costs of a row.
         costs: Costs,
-        /// The file of the input; None for standard input.
+        /// The file of the input; `None` for standard input.
         input: Option<&'a str>,
     },
     /// Plan a strategy of least work.
     Plan {
-        /// What a row costs.
+        /// The costs of a row.
         costs: Costs,
-        /// How many nodes a search may open.
+        /// The number of nodes that a search may open.
         budget: Budget,
-        /// The file of the input; None for standard input.
+        /// The file of the input; `None` for standard input.
         input: Option<&'a str>,
     },
     /// Judge a plan: the strategy, its work, and the certificate that it is least.
     Certify {
-        /// What a row costs.
+        /// The costs of a row.
         costs: Costs,
-        /// The file of the input; None for standard input.
+        /// The file of the input; `None` for standard input.
         input: Option<&'a str>,
     },
     /// Carry a night out.
     Night {
-        /// How it is run.
+        /// The way in which the night is run.
         how: NightOptions,
-        /// The file of the input; None for standard input.
-        input: Option<&'a str>,
+        /// The file of the input, and the most bytes that it may have.
+        input: DataInput<'a>,
     },
     /// Go through the events of a schedule.
     Replay {
-        /// The file of the input; None for standard input.
-        input: Option<&'a str>,
+        /// The file of the input, and the most bytes that it may have.
+        input: DataInput<'a>,
     },
 }
 
 /// Reads the words that follow the program's name.
-///
-/// An Err is also a request for help, which leaves nothing to do but to show a text.
+/// Fails with what is wrong with the first word that is not taken. A request for help is an error, too, which leaves nothing to do but to
+/// show a text.
 pub fn parse<'a>(alloc: Global, words: &'a [&'a str]) -> Result<Asked<'a>, CommandFault>
     ensures asked { IfOk result (IsAsked (subcommand_of whview_app (texts words.now))) }
 
@@ -148,10 +148,10 @@ fn asked_of<'a>(matches: &ArgMatches<'a>) -> Asked<'a>
         },
         Some(("night", options)) => Asked::Night {
             how: night_options_of(options),
-            input: options.get_str("input"),
+            input: data_input_of(options),
         },
         Some(("replay", options)) => Asked::Replay {
-            input: options.get_str("input"),
+            input: data_input_of(options),
         },
         _ => unreachable!(),
     }
@@ -159,53 +159,51 @@ fn asked_of<'a>(matches: &ArgMatches<'a>) -> Asked<'a>
 
 /// The costs of a command that has an option for each.
 fn costs_of(options: &ArgMatches<'_>) -> Costs
-    requires { TakesCosts (rows_of (found_of options.now)) }
-    ensures { prices_of result ≡ prices_in (rows_of (found_of options.now)) }
+    requires comp { Fits (Amount 1 1000000 1) (first_of (codes "comp-cost") (rows_of (found_of options.now))) }
+    requires inst { Fits (Amount 1 1000000 1) (first_of (codes "inst-cost") (rows_of (found_of options.now))) }
+    ensures comp { OfNumber result.comp ≡ worth (Amount 1 1000000 1) (first_of (codes "comp-cost") (rows_of (found_of options.now))) }
+    ensures inst { OfNumber result.inst ≡ worth (Amount 1 1000000 1) (first_of (codes "inst-cost") (rows_of (found_of options.now))) }
 {
     Costs {
-        comp: cost(options, "comp-cost"),
-        inst: cost(options, "inst-cost"),
+        comp: amount(options, "comp-cost", 1_000_000, DEFAULT_COST),
+        inst: amount(options, "inst-cost", 1_000_000, DEFAULT_COST),
     }
 }
 
-/// The number of an option that `clap` has taken, or the default.
-fn cost(options: &ArgMatches<'_>, name: &str) -> u64
-    requires { TakesCost name.now (rows_of (found_of options.now)) }
-    ensures value { result ≡ cost_of name.now (rows_of (found_of options.now)) }
+/// The number of an option that `clap` has taken from 1 to this most, or the default.
+fn amount(options: &ArgMatches<'_>, name: &str, most: u64, default: u64) -> u64
+    requires taken { Fits (Amount 1 most default) (first_of name.now (rows_of (found_of options.now))) }
+    requires least { 1 ≤ default }
+    requires most { default ≤ most }
+    ensures value { OfNumber result ≡ worth (Amount 1 most default) (first_of name.now (rows_of (found_of options.now))) }
     ensures least { 1 ≤ result }
-    ensures most { result ≤ 1000000 }
+    ensures most { result ≤ most }
 {
     match options.get_str(name) {
         Some(text) => match text.parse() {
-            Ok(cost) => cost,
+            Ok(amount) => amount,
             Err(_) => unreachable!(),
         },
-        None => DEFAULT_COST,
+        None => default,
     }
 }
 
 /// How many nodes a search may open by the option that `clap` has taken, or by the default.
 fn budget_of(options: &ArgMatches<'_>) -> Budget
-    requires { TakesBudget (rows_of (found_of options.now)) }
-    ensures { result.nodes ≡ budget_of (rows_of (found_of options.now)) }
+    requires { Fits (Amount 1 9223372036854775807 1000000) (first_of (codes "budget") (rows_of (found_of options.now))) }
+    ensures { OfNumber result.nodes ≡ worth (Amount 1 9223372036854775807 1000000) (first_of (codes "budget") (rows_of (found_of options.now))) }
 {
-    match options.get_str("budget") {
-        Some(text) => match text.parse() {
-            Ok(nodes) => Budget { nodes },
-            Err(_) => unreachable!(),
-        },
-        None => Budget {
-            nodes: DEFAULT_BUDGET,
-        },
+    Budget {
+        nodes: amount(options, "budget", 9_223_372_036_854_775_807, DEFAULT_BUDGET),
     }
 }
 
 /// The number of an option that `clap` has taken within these bounds, or the default.
 fn number(options: &ArgMatches<'_>, name: &str, low: usize, high: usize, default: usize) -> usize
-    requires taken { TakesNumber name.now low high (rows_of (found_of options.now)) }
+    requires taken { Fits (Number low high default) (first_of name.now (rows_of (found_of options.now))) }
     requires least { low ≤ default }
     requires most { default ≤ high }
-    ensures value { result ≡ number_in name.now default (rows_of (found_of options.now)) }
+    ensures value { OfNumber result ≡ worth (Number low high default) (first_of name.now (rows_of (found_of options.now))) }
     ensures least { low ≤ result }
     ensures most { result ≤ high }
 {
@@ -218,9 +216,21 @@ fn number(options: &ArgMatches<'_>, name: &str, low: usize, high: usize, default
     }
 }
 
+/// Which file is the input, and how long it may be, by the options that `clap` has taken.
+fn data_input_of<'a>(options: &ArgMatches<'a>) -> DataInput<'a>
+    requires { Fits (Number 1 1099511627776 usual_limit) (first_of (codes "most") (rows_of (found_of options.now))) }
+    ensures file { OfFile (option_map (λ path. path.now) result.file) ≡ worth File (first_of (codes "input") (rows_of (found_of options.now))) }
+    ensures limit { OfNumber result.limit ≡ worth (Number 1 1099511627776 usual_limit) (first_of (codes "most") (rows_of (found_of options.now))) }
+{
+    DataInput {
+        file: options.get_str("input"),
+        limit: number(options, "most", 1, 1_099_511_627_776, USUAL_LIMIT),
+    }
+}
+
 /// What is printed of a night by the option that `clap` has taken, or its new tables.
 fn printed(options: &ArgMatches<'_>) -> Printed
-    ensures { result ≡ printed_in (rows_of (found_of options.now)) }
+    ensures { OfPrint result ≡ worth Print (first_of (codes "print") (rows_of (found_of options.now))) }
 {
     match options.get_str("print") {
         Some(word) => printed_of(word),
@@ -230,7 +240,7 @@ fn printed(options: &ArgMatches<'_>) -> Printed
 
 /// What this word asks to be printed.
 fn printed_of(word: &str) -> Printed
-    ensures { result ≡ printed_of word.now }
+    ensures { OfPrint result ≡ worth Print (Some word.now) }
 {
     if word == "changes" {
         Printed::Changes
@@ -241,8 +251,13 @@ fn printed_of(word: &str) -> Printed
 
 /// How a night is run by the options that `clap` has taken.
 fn night_options_of(options: &ArgMatches<'_>) -> NightOptions
-    requires { TakesNightOptions (rows_of (found_of options.now)) }
-    ensures { HasNightOptions (rows_of (found_of options.now)) result }
+    requires workers { Fits (Number 1 16 1) (first_of (codes "workers") (rows_of (found_of options.now))) }
+    requires readers { Fits (Number 0 16 0) (first_of (codes "readers") (rows_of (found_of options.now))) }
+    requires page_keys { Fits (Number 1 256 256) (first_of (codes "page-keys") (rows_of (found_of options.now))) }
+    ensures workers { OfNumber result.workers ≡ worth (Number 1 16 1) (first_of (codes "workers") (rows_of (found_of options.now))) }
+    ensures readers { OfNumber result.readers ≡ worth (Number 0 16 0) (first_of (codes "readers") (rows_of (found_of options.now))) }
+    ensures page_keys { OfNumber result.page_keys ≡ worth (Number 1 256 256) (first_of (codes "page-keys") (rows_of (found_of options.now))) }
+    ensures print { OfPrint result.print ≡ worth Print (first_of (codes "print") (rows_of (found_of options.now))) }
 {
     NightOptions {
         workers: number(options, "workers", 1, 16, DEFAULT_WORKERS),

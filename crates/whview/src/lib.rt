@@ -1,9 +1,9 @@
-//! What the program `whview` does: it judges strategies of a warehouse's night, plans one of least work, judges the
-//! certificates of plans, carries a night out, and replays nights event by event.
+//! Does what the program `whview` does. It judges strategies of a warehouse's night, plans one of least work, judges the certificates of
+//! plans, carries a night out, and replays nights event by event.
 //!
-//! [`run`] is the whole program over a source and a sink. Its words ask for a command, the source has a bundle, and what
-//! is written is the command's answer, built whole. What stands above it, `whview_main`, hands it the words of the command
-//! line, standard input and standard output, as [`Counted`] makes a source and a sink of them.
+//! [`run`] is the whole program over a source and a sink. Its words ask for a command, the source has a bundle, and what is written is the
+//! command's answer, built whole. [`run_watched`] also tells a watch of a night's workers and readers. What stands above it, `whview_main`,
+//! hands it the words of the command line, standard input and standard output, as [`CountedStream`] makes a source and a sink of them.
 #![tactic(auto)]
 
 mod answer;
@@ -12,6 +12,7 @@ mod catalogue;
 mod certify;
 mod check;
 mod command_line;
+mod data_input;
 mod laws;
 mod night;
 mod night_options;
@@ -21,6 +22,10 @@ mod replay;
 mod status;
 mod words;
 
-pub use laws::{a_printed_plan_is_certified, one_answer_law};
-pub use program::{run, want_of_memory, words_without_text};
-pub use wh_stream::{Counted, Sink, Source};
+pub use laws::{
+    a_printed_plan_is_certified, one_answer_law, taken_words_are_of_the_table,
+    words_of_the_table_are_taken,
+};
+pub use program::{run, run_watched, want_of_memory, words_without_text};
+pub use wh_night::{Gate, Watch};
+pub use wh_stream::{CountedStream, Sink, Source};

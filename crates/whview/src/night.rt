@@ -1,4 +1,4 @@
-//! The command `night`: from the bytes of a bundle to what its strategy makes of the tables, while readers go through those of before.
+//! Does the command `night`: from the bytes of a bundle to what its strategy makes of the tables, while readers go through those of before.
 
 ghost use Rattle.std.specs.Prelude.{◌≡◌, ◌≢◌, map, length, IsTrue, IfOk};
 ghost use Rattle.wh_formula.specs.Expr.{fits as fits_expr};
@@ -32,35 +32,35 @@ use std::thread::Threads;
 use wh_carry::CarryFault;
 use wh_dag::{Catalog, Shape};
 use wh_formula::{Expr, Native, Pred, RowTest, RowValue};
-use wh_load::{Dict, GivenNight, NightInput, Opening, WrittenView, read_for_night};
+use wh_load::{ChunkedText, Dict, GivenNight, NightInput, Opening, WrittenView, read_for_night};
 use wh_maint::{MaintFault, opening_contents};
-use wh_night::{Asked, NoWatch, Served};
+use wh_night::{Gate, NightRequest, Served, Watch};
 use wh_strategy::{CheckFault, Rule, check};
 use wh_threads::ThreadBudget;
 
-/// What is decided of a night.
+/// The decision on a night.
 #[derive(Drop)]
 pub enum Outcome {
-    /// Its strategy breaks a rule.
+    /// The night's strategy breaks a rule.
     Broken {
-        /// The first that it breaks.
+        /// The first rule that it breaks.
         rule: Rule,
         /// The first place of the list that breaks it, from 1.
         place: usize,
     },
     /// The base that was read has no contents to begin from.
     NoContents(MaintFault),
-    /// It is refused; the contents are as they were.
+    /// The night is refused; the contents are as they were.
     Refused(CarryFault),
-    /// It is carried out.
+    /// The night is carried out.
     Carried {
         /// The views, in the order of their numbers.
         views: Vec<WrittenView>,
         /// The texts that cells stand for.
         texts: Dict,
-        /// The new tables, what each expression did, and what readers were given.
+        /// The new tables, the report of each expression, and what readers were given.
         carried: Served,
-        /// What is shown of the derived views.
+        /// The tables or the changes that are shown of the derived views.
         shown: Shown,
     },
 }
@@ -71,15 +71,19 @@ impl Outcome {
         &self,
         budget: &ThreadBudget<'_, R>,
         shape: &Shape,
-    ) -> Result<Vec<u8>, AllocError>
+    ) -> Result<ChunkedText, AllocError>
         requires { IsWhole shape.now self.now }
-        ensures { IfOk result (λ text. text.items ≡ text_of shape.now.names self.now) }
+        ensures { IfOk result (λ text. text ≡ text_of shape.now.names self.now) }
     {
         let alloc = budget.alloc;
         match self {
-            Outcome::Broken { rule, place } => broken_text(alloc, *rule, *place),
-            Outcome::NoContents(fault) => cause_text(alloc, shape, fault),
-            Outcome::Refused(refused) => refused_text(alloc, shape, refused),
+            Outcome::Broken { rule, place } => {
+                Ok(ChunkedText::of(broken_text(alloc, *rule, *place)?))
+            }
+            Outcome::NoContents(fault) => Ok(ChunkedText::of(cause_text(alloc, shape, fault)?)),
+            Outcome::Refused(refused) => {
+                Ok(ChunkedText::of(refused_text(alloc, shape, refused)?))
+            }
             Outcome::Carried {
                 views,
                 texts,
@@ -110,13 +114,14 @@ impl Outcome {
     }
 }
 
-/// What is decided of a night from what it is given, over a catalogue of its views, where it is run so.
-fn decide<F: RowTest, G: RowValue, R: Threads + Wait + Sync>(
+/// What is decided of a night from what it is given, over a catalogue of its views, where it is run so. The watch is told of it.
+fn decide<F: RowTest, G: RowValue, R: Threads + Wait + Sync, N: Gate + Watch + Sync>(
     budget: &ThreadBudget<'_, R>,
     catalog: &Catalog<F, G>,
     how: NightOptions,
     opening: Opening,
     given: GivenNight,
+    watch: &N,
 ) -> Result<Outcome, AllocError>
     requires workers { budget.now.threads ≡ how.workers }
     requires shown { catalog.now ≡ catalog_of catalog.now.views (map shown_view opening.views.items) }
@@ -141,15 +146,15 @@ fn decide<F: RowTest, G: RowValue, R: Threads + Wait + Sync>(
         Ok(tables) => tables,
         Err(fault) => return no_contents(fault),
     };
-    let asked = Asked {
+    let asked = NightRequest {
         budget,
         catalog,
         changes: &changes,
         correct: &correct,
         page_keys: how.page_keys,
-        gate: &NoWatch,
+        gate: watch,
     };
-    match serve(&asked, how.readers, how.print, &views, tables) {
+    match serve(&asked, how, &views, tables) {
         Ok((carried, shown)) => Ok(Outcome::Carried {
             views,
             texts,
@@ -188,12 +193,14 @@ fn answer_with<
     T: Fn(Pred) -> F,
     V: Fn(Expr) -> G,
     R: Threads + Wait + Sync,
+    N: Gate + Watch + Sync,
 >(
     budget: &ThreadBudget<'_, R>,
     how: NightOptions,
     input: NightInput,
     test: T,
     value: V,
+    watch: &N,
 ) -> Result<Answer, AllocError>
     requires workers { budget.now.threads ≡ how.workers }
     requires fit { IsFitNight input }
@@ -201,7 +208,7 @@ fn answer_with<
     requires callable_value { V.IsAlwaysCallable value }
     requires tests { AnswersTests (T.post test) F.can_test F.tests }
     requires values { AnswersValues (V.post value) G.can_combine G.combines }
-    ensures { IfOk result (λ a. IsNightTold (shown_night input) how.print how.readers a.text.items (status_number a.status)) }
+    ensures { IfOk result (λ a. IsNightTold (shown_night input) how.print how.readers a.text (status_number a.status)) }
 {
     let NightInput {
         shape,
@@ -209,21 +216,22 @@ fn answer_with<
         given,
     } = input;
     let catalog = catalog_with(budget.alloc, shape, &opening.views, test, value)?;
-    let outcome = decide(budget, &catalog, how, opening, given)?;
+    let outcome = decide(budget, &catalog, how, opening, given, watch)?;
     let text = outcome.text(budget, catalog.shape())?;
     let status = outcome.status();
     Ok(Answer { text, status })
 }
 
 /// What a night makes of what it is given. Each formula of the catalogue is stored with a closure.
-fn answer_of<R: Threads + Wait + Sync>(
+fn answer_of<R: Threads + Wait + Sync, N: Gate + Watch + Sync>(
     budget: &ThreadBudget<'_, R>,
     how: NightOptions,
     input: NightInput,
+    watch: &N,
 ) -> Result<Answer, AllocError>
     requires workers { budget.now.threads ≡ how.workers }
     requires fit { IsFitNight input }
-    ensures { IfOk result (λ a. IsNightTold (shown_night input) how.print how.readers a.text.items (status_number a.status)) }
+    ensures { IfOk result (λ a. IsNightTold (shown_night input) how.print how.readers a.text (status_number a.status)) }
 {
     answer_with(
         budget,
@@ -243,17 +251,20 @@ fn answer_of<R: Threads + Wait + Sync>(
                 { expr.value(row) },
             )
         },
+        watch,
     )
 }
 
-/// What `night` answers for the bytes of a bundle, where it is run so.
-pub fn answer<R: Threads + Wait + Sync>(
+/// Returns what `night` answers for the bytes of a bundle, where the night is run so. The watch is told of it.
+/// Fails for want of memory.
+pub fn answer<R: Threads + Wait + Sync, N: Gate + Watch + Sync>(
     rt: &R,
     alloc: Global,
     how: NightOptions,
     bytes: &[u8],
+    watch: &N,
 ) -> Result<Answer, AllocError>
-    ensures { IfOk result (λ a. IsNightOutput how.print how.readers bytes.now a.text.items (status_number a.status)) }
+    ensures { IfOk result (λ a. IsNightOutput how.print how.readers bytes.now a.text (status_number a.status)) }
 {
     let budget = ThreadBudget {
         rt,
@@ -261,7 +272,7 @@ pub fn answer<R: Threads + Wait + Sync>(
         threads: how.workers,
     };
     match read_for_night(&budget, bytes) {
-        Ok(input) => answer_of(&budget, how, input),
+        Ok(input) => answer_of(&budget, how, input, watch),
         Err(fault) => Answer::fault(alloc, &fault),
     }
 }

@@ -1,27 +1,27 @@
-//! How a night is run, and what is printed of it.
+//! Says how a night is run, and what is printed of it.
 
 ghost use Rattle.std.specs.Prelude.{◌≤◌};
 
-/// What is printed of the derived views of a night that is carried out.
+/// The choice of what is printed of the derived views of a night that is carried out.
 #[derive(Clone, Copy)]
 pub enum Printed {
-    /// The new table of each.
+    /// The new table of each derived view.
     Tables,
-    /// The change of each: how often more a row counts than before, or with a sign how often less.
+    /// The change of each derived view: how often more a row counts than before, or with a sign how often less.
     Changes,
 }
 
-/// By how many workers and beside how many readers a night is run, and how many rows one of its operations writes at most, and what
-/// is printed of it.
+/// The way in which a night is run, and what is printed of it: its workers, the readers beside it, and the rows that one of its operations
+/// writes.
 #[derive(Clone, Copy)]
 pub struct NightOptions {
-    /// How many workers draw jobs, 1 to 16.
+    /// The number of workers that draw jobs, 1 to 16.
     pub workers: usize,
-    /// How many readers go through the tables of before meanwhile, 0 to 16.
+    /// The number of readers that go through the tables of before meanwhile, 0 to 16.
     pub readers: usize,
-    /// How many rows of a view one operation writes at most, 1 to 256.
+    /// The most rows of a view that one operation writes, 1 to 256.
     pub page_keys: usize,
-    /// What is printed of the derived views.
+    /// The tables or the changes that are printed of the derived views.
     pub print: Printed,
     ghost some: { 1 ≤ workers },
     ghost few: { workers ≤ 16 },

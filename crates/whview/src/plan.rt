@@ -1,4 +1,4 @@
-//! The command `plan`: from the bytes of a bundle to a plan of least work.
+//! Does the command `plan`: from the bytes of a bundle to a plan of least work.
 
 ghost use Rattle.std.specs.Prelude.{◌≡◌, IfOk, decimal};
 ghost use Rattle.wh_text_lines.specs.PlanText.{plan_text};
@@ -14,18 +14,18 @@ use crate::status::Status;
 use std::alloc::{AllocError, Global};
 use wh_cert::Planned;
 use wh_dag::Shape;
-use wh_load::{MeasuredViews, Names, read_for_plan, write_plan};
+use wh_load::{ChunkedText, MeasuredViews, Names, read_for_plan, write_plan};
 use wh_prune::{PruneFault, plan};
 use wh_strategy::Costs;
 
-/// What is decided for views of some sizes.
+/// The decision for views of some sizes.
 #[derive(Drop)]
 pub enum Outcome {
     /// There is a plan of least work.
     Planned(Planned),
-    /// The budget of the search for one is spent.
+    /// The budget of the search for a plan is spent.
     Spent {
-        /// How many nodes were opened.
+        /// The number of nodes that were opened.
         opened: u64,
         /// The least work that was found, in cost times rows by weight.
         best: u128,
@@ -88,14 +88,15 @@ fn decide(
     }
 }
 
-/// What `plan` answers for the bytes of a bundle, at these costs; a search opens at most so many nodes as the budget says.
+/// Returns what `plan` answers for the bytes of a bundle, at these costs. A search opens at most so many nodes as the budget says.
+/// Fails for want of memory.
 pub fn answer(
     alloc: Global,
     costs: Costs,
     budget: Budget,
     bytes: &[u8],
 ) -> Result<Answer, AllocError>
-    ensures { IfOk result (λ a. IsPlanOutput costs budget.nodes bytes.now a.text.items (status_number a.status)) }
+    ensures { IfOk result (λ a. IsPlanOutput costs budget.nodes bytes.now a.text (status_number a.status)) }
 {
     let measured = match read_for_plan(alloc, bytes) {
         Ok(measured) => measured,
@@ -104,5 +105,8 @@ pub fn answer(
     let outcome = decide(alloc, costs, budget, &measured)?;
     let text = outcome.text(alloc, &measured.shape)?;
     let status = outcome.status();
-    Ok(Answer { text, status })
+    Ok(Answer {
+        text: ChunkedText::of(text),
+        status,
+    })
 }

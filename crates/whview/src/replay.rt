@@ -1,4 +1,4 @@
-//! The command `replay`: from the bytes of a bundle to the replies of a machine that goes through its nights.
+//! Does the command `replay`: from the bytes of a bundle to the replies of a machine that goes through its nights.
 
 ghost use Rattle.std.specs.Prelude.{◌≡◌, IsTrue, IfErr, IfOk, OnOk, false, length, map};
 ghost use Rattle.std.specs.List.{list_any};
@@ -28,7 +28,9 @@ use std::thread::Threads;
 use wh_core::{Cause, Core, Event, MachineOptions, Reply};
 use wh_dag::{Catalog, Shape};
 use wh_formula::{Expr, Native, Pred, RowTest, RowValue};
-use wh_load::{GivenNight, Opening, ReplayInput, Schedule, ScheduledEvent, read_for_replay};
+use wh_load::{
+    ChunkedText, GivenNight, Opening, ReplayInput, Schedule, ScheduledEvent, read_for_replay,
+};
 use wh_maint::opening_contents;
 use wh_row::Bag;
 use wh_strategy::{CheckFault, Correct, check};
@@ -149,7 +151,7 @@ fn answer_over<F: RowTest + Drop, G: RowValue + Drop, R: Threads + Sync>(
     requires tables { AreReadTables catalog opening.tables.items }
     requires changes { AreChangesOf catalog (map shown_given nights.items) }
     ensures { IfOk result (λ a. IsReplayTold (record { shape = catalog.views; opening = shown_opening opening; nights = map shown_given nights.items; schedule = schedule.now })
-        a.text.items (status_number a.status)) }
+        a.text (status_number a.status)) }
 {
     let alloc = budget.alloc;
     let nights = match judged(alloc, catalog.shape(), nights) {
@@ -175,7 +177,7 @@ fn answer_over<F: RowTest + Drop, G: RowValue + Drop, R: Threads + Sync>(
     let replies = replies_to(alloc, catalog, tables, nights, schedule)?;
     let text = replies_text(alloc, &replies)?;
     Ok(Answer {
-        text,
+        text: ChunkedText::of(text),
         status: Status::Done,
     })
 }
@@ -193,7 +195,7 @@ fn answer_with<
     requires callable_value { V.IsAlwaysCallable value }
     requires tests { AnswersTests (T.post test) F.can_test F.tests }
     requires values { AnswersValues (V.post value) G.can_combine G.combines }
-    ensures { IfOk result (λ a. IsReplayTold (shown_replay input) a.text.items (status_number a.status)) }
+    ensures { IfOk result (λ a. IsReplayTold (shown_replay input) a.text (status_number a.status)) }
 {
     let ReplayInput {
         shape,
@@ -211,7 +213,7 @@ fn answer_of<R: Threads + Sync>(
     input: ReplayInput,
 ) -> Result<Answer, AllocError>
     requires fit { IsFitReplay input }
-    ensures { IfOk result (λ a. IsReplayTold (shown_replay input) a.text.items (status_number a.status)) }
+    ensures { IfOk result (λ a. IsReplayTold (shown_replay input) a.text (status_number a.status)) }
 {
     answer_with(
         budget,
@@ -233,10 +235,11 @@ fn answer_of<R: Threads + Sync>(
     )
 }
 
-/// What `replay` answers for the bytes of a bundle. They are read by one thread, since only they say how many workers there are; the
-/// contents are opened by as many threads as the schedule has workers, and the events are answered by one.
+/// Returns what `replay` answers for the bytes of a bundle. They are read by one thread, since only they say how many workers there are.
+/// The contents are opened by as many threads as the schedule has workers, and the events are answered by one.
+/// Fails for want of memory.
 pub fn answer<R: Threads + Sync>(rt: &R, alloc: Global, bytes: &[u8]) -> Result<Answer, AllocError>
-    ensures { IfOk result (λ a. IsReplayOutput bytes.now a.text.items (status_number a.status)) }
+    ensures { IfOk result (λ a. IsReplayOutput bytes.now a.text (status_number a.status)) }
 {
     let budget = ThreadBudget {
         rt,

@@ -1,16 +1,16 @@
-//! What the program ends with where its output does not fail.
+//! Names what the program ends with where its output does not fail.
 
 ghost use Rattle.std.specs.Prelude.{◌≡◌, ◌<◌};
 ghost use Rattle.whview.specs.Status.{status_number};
 
-/// What an answer comes to.
+/// The outcomes of an answer.
 #[derive(Clone, Copy)]
 pub enum Status {
     /// The answer is what was asked for, or help.
     Done,
     /// A strategy breaks a rule, a plan is rejected, or a night is refused.
     Negative,
-    /// The words are no command line.
+    /// The words are no command line of this program.
     Words,
     /// The input has a fault.
     Fault,
@@ -19,7 +19,7 @@ pub enum Status {
 }
 
 impl Status {
-    /// The status of the process where the answer goes out, 0 to 4.
+    /// Returns the status of the process where the answer goes out, 0 to 4.
     pub fn number(self) -> u8
         ensures number { result ≡ status_number self }
         ensures small { result < 5 }

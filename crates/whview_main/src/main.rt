@@ -7,7 +7,7 @@ use std::io::ErrorKind;
 use std::process::ExitCode;
 use std::rt::Env;
 use std::{env, io};
-use whview::{Counted, run, want_of_memory, words_without_text};
+use whview::{CountedStream, run, want_of_memory, words_without_text};
 
 /// The words of the command line after the program's name. It fails where one of them is not UTF-8 (`InvalidData`), and
 /// where memory is refused.
@@ -21,8 +21,8 @@ fn handed_words<E: Env + AllocGlobal>(rt: &E) -> io::Result<Vec<String>> {
 
 /// Hands the words, standard input and standard output to `run`, and ends with what it answers.
 fn main(rt: HostRuntime) -> ExitCode {
-    let mut input = Counted::new(rt.stdin());
-    let mut out = Counted::new(rt.stdout());
+    let mut input = CountedStream::new(rt.stdin());
+    let mut out = CountedStream::new(rt.stdout());
     let words = match handed_words(&rt) {
         Ok(words) => words,
         Err(error) if error.kind() == ErrorKind::InvalidData => {

@@ -13,13 +13,12 @@ use wh_maint::{
 use wh_row::Bag;
 use wh_threads::ThreadBudget;
 
-/// What a Comp answers.
+/// What the Comp of this view from these answers.
 pub(crate) fn comp_of<F: RowTest, G: RowValue>(
     rt: &impl Abort,
     alloc: Global,
     catalog: &Catalog<F, G>,
-    view: usize,
-    sources: &[usize],
+    (view, sources): (usize, &[usize]),
     tables: &[Bag],
     changes: &[Bag],
 ) -> Result<Pending, MaintFault> {

@@ -62,7 +62,7 @@ fn joins_tables<F: RowTest, G: RowValue>(
     has_its_value(rt, alloc, catalog, &tables);
     assert_eq!(rt; rows_of(rt, catalog, 2, &[0], &tables, &changes), 3);
     assert_eq!(rt; rows_of(rt, catalog, 2, &[0, 1], &tables, &changes), 11);
-    match comp_of(rt, alloc, catalog, 2, &[0, 1], &tables, &changes) {
+    match comp_of(rt, alloc, catalog, (2, &[0, 1]), &tables, &changes) {
         Ok(all) => {
             assert_eq!(rt; all.counts().total(), 4);
             assert_eq!(rt; (all.count(&[1, 5]), all.count(&[1, 6])), (-1, 1));
@@ -156,7 +156,7 @@ fn sums_groups<F: RowTest, G: RowValue>(
     let tables = bags(alloc, &A_SUMMARY)?;
     let changes = bags(alloc, &A_CHANGE)?;
     assert!(rt; tables.len() == 2);
-    match comp_of(rt, alloc, catalog, 1, &[0], &tables, &changes) {
+    match comp_of(rt, alloc, catalog, (1, &[0]), &tables, &changes) {
         Ok(all) => {
             assert_eq!(rt; (all.count(&[1]), all.count(&[2])), (-1, 0));
             assert!(rt; all.sums() == 1);

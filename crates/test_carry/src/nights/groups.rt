@@ -33,7 +33,7 @@ fn change_of_sums(
     changes: &[Bag],
     table: &Bag,
 ) -> Result<Bag, MaintFault> {
-    let pending = comp_of(rt, alloc, catalog, 1, &[0], tables, changes)?;
+    let pending = comp_of(rt, alloc, catalog, (1, &[0]), tables, changes)?;
     assert_eq!(rt; (pending.view(), pending.sums()), (1, 1));
     change_of(rt, alloc, catalog, 1, &pending, table)
 }

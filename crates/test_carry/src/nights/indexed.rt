@@ -60,7 +60,7 @@ fn all_rows_of_a_leave(rt: HostRuntime) -> Result<(), Fail> {
     let old = tables(alloc, of_a(alloc, 1)?, of_b(alloc)?)?;
     let changes = tables(alloc, of_a(alloc, -1)?, Bag::new(alloc))?;
     assert_eq!(&rt; rows_of(&rt, &catalog, 2, &[0], &old, &changes), 4010);
-    let pending = comp_of(&rt, alloc, &catalog, 2, &[0], &old, &changes);
+    let pending = comp_of(&rt, alloc, &catalog, (2, &[0]), &old, &changes);
     let pending = pending.ok().expect(&rt, "a comp");
     let change = change_of(&rt, alloc, &catalog, 2, &pending, &Bag::new(alloc));
     let change = change.ok().expect(&rt, "a change");
@@ -89,7 +89,7 @@ fn granted(
         };
         note(rt, wants, &catalog, &asked)?;
     }
-    wants.grant(alloc, tables, 1)?;
+    wants.build_indexes(alloc, tables, 1)?;
     Ok(())
 }
 
@@ -122,11 +122,11 @@ fn a_table_is_laid_out_where_many_comps_want_it(rt: HostRuntime) -> Result<(), F
     let mut tables = tables(alloc, of_a(alloc, 1)?, of_b(alloc)?)?;
     granted(&rt, alloc, &mut Wants::new(alloc), &mut tables, 2)?;
     assert!(&rt; !is_laid_out(&tables));
-    let added = comp_of(&rt, alloc, &catalog, 2, &[1], &tables, &changes);
+    let added = comp_of(&rt, alloc, &catalog, (2, &[1]), &tables, &changes);
     assert!(&rt; are_of_three(&added.ok().expect(&rt, "a comp")));
     granted(&rt, alloc, &mut Wants::new(alloc), &mut tables, 20)?;
     assert!(&rt; is_laid_out(&tables));
-    let added = comp_of(&rt, alloc, &catalog, 2, &[1], &tables, &changes);
+    let added = comp_of(&rt, alloc, &catalog, (2, &[1]), &tables, &changes);
     assert!(&rt; are_of_three(&added.ok().expect(&rt, "a comp")));
     Ok(())
 }
@@ -163,9 +163,9 @@ fn a_table_is_not_laid_out_where_no_comp_asks_for_it_any_more(rt: HostRuntime) -
         };
         note(&rt, &mut wants, &catalog, &asked)?;
     }
-    wants.grant(alloc, &mut tables, 16)?;
+    wants.build_indexes(alloc, &mut tables, 16)?;
     assert!(&rt; !is_laid_out(&tables));
-    wants.grant(alloc, &mut tables, 1)?;
+    wants.build_indexes(alloc, &mut tables, 1)?;
     assert!(&rt; !is_laid_out(&tables));
     granted(&rt, alloc, &mut wants, &mut tables, 1)?;
     assert!(&rt; is_laid_out(&tables));
@@ -263,7 +263,7 @@ fn finds_many(index: &Index<'_>, key: &[i64], many: usize) -> bool {
 fn an_index_has_the_rows_of_a_key(rt: HostRuntime) -> Result<(), Fail> {
     let alloc = rt.alloc();
     let rows = of_a(alloc, 1)?;
-    assert!(&rt; rows.is_width(2));
+    assert!(&rt; rows.has_width(2));
     let index = Index::new(alloc, &rows, vec![in alloc; 1]?)?;
     assert!(&rt; finds_many(&index, &[3], 400));
     assert_eq!(&rt; index.rows(&[3]).next(), Some(([3, 3].as_slice(), 1)));
@@ -278,7 +278,7 @@ fn an_index_on_leading_columns_finds_rows_that_start_with_the_key(
 ) -> Result<(), Fail> {
     let alloc = rt.alloc();
     let rows = of_a(alloc, 1)?;
-    assert!(&rt; rows.is_width(2));
+    assert!(&rt; rows.has_width(2));
     let index = Index::new(alloc, &rows, vec![in alloc; 0]?)?;
     assert!(&rt; finds(&index, &[3993], &[&[3993, 3]]));
     assert!(&rt; finds(&index, &[4000], &[]));
@@ -295,7 +295,7 @@ fn an_index_finds_rows_by_columns_in_another_order(rt: HostRuntime) -> Result<()
     for row in [[5, 1, 7], [5, 2, 7], [6, 1, 5], [7, 1, 5], [7, 3, 5]] {
         rows.add(&row, 1)?;
     }
-    assert!(&rt; rows.is_width(3));
+    assert!(&rt; rows.has_width(3));
     let index = Index::new(alloc, &rows, vec![in alloc; 2, 0]?)?;
     assert!(&rt; finds(&index, &[7, 5], &[&[5, 1, 7], &[5, 2, 7]]));
     assert!(&rt; finds(&index, &[5, 7], &[&[7, 1, 5], &[7, 3, 5]]));
@@ -318,7 +318,7 @@ fn an_index_on_no_column_finds_each_row(rt: HostRuntime) -> Result<(), Fail> {
 fn a_key_of_another_length_finds_nothing(rt: HostRuntime) -> Result<(), Fail> {
     let alloc = rt.alloc();
     let rows = of_b(alloc)?;
-    assert!(&rt; rows.is_width(2));
+    assert!(&rt; rows.has_width(2));
     let index = Index::new(alloc, &rows, vec![in alloc; 0, 1]?)?;
     assert!(&rt; finds_many(&index, &[3], 0));
     assert!(&rt; finds_many(&index, &[3, 103], 1));
@@ -333,7 +333,7 @@ fn a_key_of_another_length_finds_nothing(rt: HostRuntime) -> Result<(), Fail> {
 fn an_index_of_no_rows_finds_none(rt: HostRuntime) -> Result<(), Fail> {
     let alloc = rt.alloc();
     let rows = Bag::new(alloc);
-    assert!(&rt; rows.is_width(2));
+    assert!(&rt; rows.has_width(2));
     let index = Index::new(alloc, &rows, vec![in alloc; 1]?)?;
     assert!(&rt; finds(&index, &[3], &[]));
     Ok(())

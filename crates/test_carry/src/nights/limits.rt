@@ -13,7 +13,7 @@ fn added(rt: &impl Abort, alloc: Global, count: i64) -> Result<Option<Pending>, 
     let tables = two_bags(alloc, &[], &[])?;
     let changes = two_bags(alloc, &[(&[3, 9], count)], &[])?;
     let catalog = kept(alloc)?;
-    Ok(comp_of(rt, alloc, &catalog, 1, &[0], &tables, &changes).ok())
+    Ok(comp_of(rt, alloc, &catalog, (1, &[0]), &tables, &changes).ok())
 }
 
 // 128 times 2^56 is 2^63.

@@ -44,7 +44,7 @@ fn comp_again(
     changes: &[Bag],
 ) -> Result<Pending, Fail> {
     for _time in 0..2 {
-        match comp_of(rt, alloc, catalog, 2, &[0, 1], tables, changes) {
+        match comp_of(rt, alloc, catalog, (2, &[0, 1]), tables, changes) {
             Ok(added) => return Ok(added),
             Err(fault) => assert_eq!(rt; fault.number(), MEMORY),
         }

@@ -46,7 +46,7 @@ fn added(
 ) -> Result<Option<Pending>, Fail> {
     let tables = tables(alloc)?;
     let changes = changes(alloc)?;
-    match comp_of(rt, alloc, catalog, 2, &[0], &tables, &changes) {
+    match comp_of(rt, alloc, catalog, (2, &[0]), &tables, &changes) {
         Ok(added) => Ok(Some(added)),
         Err(_) => Ok(None),
     }

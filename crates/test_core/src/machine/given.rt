@@ -8,7 +8,7 @@ ghost use Rattle.wh_maint.specs.Definition.{graph_of};
 ghost use Rattle.wh_strategy.specs.Rules.{IsCorrect};
 ghost use Rattle.wh_core.specs.Laws.{IsGivenNight};
 ghost use Rattle.wh_core.specs.Nights.{GivenNight};
-ghost use Rattle.wh_core.specs.Standing.{AreJudged, IsFresh, given_of, nights_of};
+ghost use Rattle.wh_core.specs.Standing.{AreJudged, IsFresh, IsStanding, given_of, nights_of};
 
 use std::alloc::Global;
 use std::process::Abort;
@@ -192,6 +192,20 @@ fn nights(
     Ok(nights)
 }
 
+/// Adds the night that brings these changes.
+pub(crate) fn add_night(
+    rt: &impl Abort,
+    alloc: Global,
+    core: &mut Core<Every, Cell>,
+    changes: Lists<'_>,
+) -> Result<(), Fail>
+    requires { IsStanding core.old }
+    ensures { IsStanding core.new }
+{
+    let night = night(rt, alloc, core.catalog(), changes)?;
+    Ok(core.add_night(night)?)
+}
+
 /// A machine over the contents of this base that has done nothing yet: of a alone, or of a and v.
 pub(crate) fn machine(
     rt: &(impl Abort + Threads + Sync),
@@ -223,6 +237,8 @@ fn core_of(
     ensures { IfOk result (λ core. IsFresh core) }
 {
     let _shape = catalog.shape();
+    assert!(rt; options.desks >= 1 && options.desks <= 16);
+    assert!(rt; options.workers >= 1 && options.workers <= 16);
     assert!(rt; options.page_keys >= 1 && options.page_keys <= 256);
     assert!(rt; options.versions >= 2 && options.versions <= 4);
     Ok(Core::new(alloc, catalog, tables, nights, options)?)
@@ -230,7 +246,7 @@ fn core_of(
 
 /// The replies to these events, by one call, over the contents of this base: of a alone, or of a and v.
 pub(crate) fn carried(
-    rt: &(impl Abort + Threads + Sync),
+    rt: &(impl Abort + Threads + Sync + AllocGlobal),
     alloc: Global,
     base: Lists<'_>,
     changes: &[Lists<'_>],
@@ -240,12 +256,11 @@ pub(crate) fn carried(
     let catalog = catalog_over(rt, alloc, base.len())?;
     let nights = nights(rt, alloc, &catalog, changes)?;
     let tables = opened(rt, alloc, &catalog, bags(alloc, base)?)?;
-    replies_to(rt, alloc, catalog, tables, nights, options, events)
+    replies_to(rt, catalog, tables, nights, options, events)
 }
 
 fn replies_to(
-    rt: &impl Abort,
-    alloc: Global,
+    rt: &(impl Abort + AllocGlobal),
     catalog: Catalog<Every, Cell>,
     tables: Vec<Bag>,
     nights: Vec<(Vec<Bag>, Correct)>,
@@ -258,7 +273,9 @@ fn replies_to(
     requires judged { AreJudged catalog nights.items }
 {
     let _shape = catalog.shape();
+    assert!(rt; options.desks >= 1 && options.desks <= 16);
+    assert!(rt; options.workers >= 1 && options.workers <= 16);
     assert!(rt; options.page_keys >= 1 && options.page_keys <= 256);
     assert!(rt; options.versions >= 2 && options.versions <= 4);
-    Ok(carry_out(alloc, catalog, tables, nights, options, events)?)
+    Ok(carry_out(rt.alloc(), catalog, tables, nights, options, events)?)
 }

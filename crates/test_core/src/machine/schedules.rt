@@ -1,5 +1,5 @@
 // What a machine answers, event by event, beside what it is to answer.
-ghost use Rattle.wh_core.specs.Standing.{IsFresh};
+ghost use Rattle.wh_core.specs.Standing.{IsFresh, IsStanding};
 
 use std::alloc::Global;
 use std::process::Abort;
@@ -87,9 +87,22 @@ pub(crate) fn assert_said(rt: &impl Abort, replies: &[Reply], schedule: Schedule
     }
 }
 
-/// Takes the events of the schedule one by one, and asserts that they are answered as it says.
+/// Takes the events of the schedule one by one, from a machine that has done nothing yet, and asserts that they are answered as it says.
 pub(crate) fn assert_steps(rt: &impl Abort, core: &mut Core<Every, Cell>, schedule: Schedule)
     requires { IsFresh core.old }
+    ensures { IsStanding core.new }
+{
+    assert_further_steps(rt, core, schedule);
+}
+
+/// The same of a machine that may have done something.
+pub(crate) fn assert_further_steps(
+    rt: &impl Abort,
+    core: &mut Core<Every, Cell>,
+    schedule: Schedule,
+)
+    requires { IsStanding core.old }
+    ensures { IsStanding core.new }
 {
     for (place, (event, said)) in schedule.iter().enumerate() {
         let reply = core.step(*event);

@@ -2,8 +2,10 @@
 ghost use Rattle.std.specs.Prelude.{IfOk};
 ghost use Rattle.wh_core.specs.Standing.{IsFresh};
 
-use crate::machine::given::{Lists, carried, machine};
-use crate::machine::schedules::{Said, Schedule, assert_run, assert_said, assert_steps, events_of};
+use crate::machine::given::{Lists, add_night, carried, machine};
+use crate::machine::schedules::{
+    Said, Schedule, assert_further_steps, assert_run, assert_said, assert_steps, events_of,
+};
 use std::alloc::Global;
 use std::process::Abort;
 use std::test::Fail;
@@ -53,6 +55,28 @@ fn replay_two_nights(rt: HostRuntime) -> Result<(), Fail> {
     };
     let mut core = two_nights(&rt, rt.alloc(), options)?;
     assert_run(&rt, rt.alloc(), &mut core, &TWO_NIGHTS)
+}
+
+static NONE_LEFT: [(Event, Said); 1] = [(Event::Begin, Said::Refused(Cause::NoNight))];
+
+/// The second night is added once the first has committed, and both are answered as if they had been there from the start.
+#[test]
+fn a_night_that_is_added_is_the_next(rt: HostRuntime) -> Result<(), Fail> {
+    let options = MachineOptions {
+        desks: 2,
+        workers: 1,
+        page_keys: 256,
+        versions: 2,
+    };
+    let base: Lists<'_> = &[&[(&[1], 1)], &[]];
+    let [first, second] = A_CHANGE_AND_NONE;
+    let mut core = machine(&rt, rt.alloc(), base, &[first], options)?;
+    let (till_commit, behind) = TWO_NIGHTS.split_at(8);
+    assert_steps(&rt, &mut core, till_commit);
+    assert_further_steps(&rt, &mut core, &NONE_LEFT);
+    add_night(&rt, rt.alloc(), &mut core, second)?;
+    assert_further_steps(&rt, &mut core, behind);
+    Ok(())
 }
 
 #[test]

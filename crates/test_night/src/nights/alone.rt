@@ -8,7 +8,7 @@ use std::thread::Threads;
 use test_given::catalogs::{joined, one_way};
 use wh_carry::{Carried, CarryFault, are_fit};
 use wh_maint::{MaintFault, are_bags};
-use wh_night::{Asked, NoGate, night_alone};
+use wh_night::{NightRequest, NoGate, night_alone};
 use wh_row::Bag;
 use wh_strategy::check;
 use wh_threads::ThreadBudget;
@@ -41,7 +41,7 @@ fn carried<R: Threads + Sync>(
         alloc,
         threads: workers,
     };
-    let asked = Asked {
+    let asked = NightRequest {
         budget: &budget,
         catalog: &catalog,
         changes: &changes,

@@ -24,7 +24,7 @@ use wh_dag::{Catalog, Definition, Output};
 use wh_desk::{Desk, Writer};
 use wh_formula::{Filter, Pred};
 use wh_maint::are_bags;
-use wh_night::{Asked, Gate, NightFault, night};
+use wh_night::{Gate, NightFault, NightRequest, night};
 use wh_store::Page;
 use wh_strategy::{Expression, Sources, Strategy, check};
 
@@ -117,7 +117,14 @@ fn night_of_one<R: Threads + Wait + Sync + Abort>(
     let Ok(correct) = check(alloc, catalog.shape(), one_way(alloc)?) else {
         return Ok(None);
     };
-    night_at(rt, alloc, &catalog, tables, &changes, &correct, gate)
+    night_at(
+        &one_thread(rt, alloc),
+        &catalog,
+        tables,
+        &changes,
+        &correct,
+        gate,
+    )
 }
 
 /// a(g,x), and v and w over it, which each keep a.x.
@@ -160,7 +167,14 @@ fn night_of_two<R: Threads + Wait + Sync + Abort>(
     let Ok(correct) = check(alloc, catalog.shape(), both_from_a(alloc)?) else {
         return Ok(None);
     };
-    night_at(rt, alloc, &catalog, tables, &changes, &correct, gate)
+    night_at(
+        &one_thread(rt, alloc),
+        &catalog,
+        tables,
+        &changes,
+        &correct,
+        gate,
+    )
 }
 
 /// Reads a page of v once a job is kept, and lets it go.
@@ -183,7 +197,7 @@ fn is_before_the_night(page: &Page) -> bool {
 
 /// Carries the night out on this thread, while the desk reads in another.
 fn read_beside<R: Threads + Wait + Sync>(
-    asked: &Asked<'_, Every, Cell, Keeping, R>,
+    asked: &NightRequest<'_, Every, Cell, Keeping, R>,
     writer: &mut Writer,
     desk: &mut Desk,
 ) -> (Option<Page>, Result<Report, NightFault>)
@@ -235,7 +249,7 @@ fn night_that_is_read<R: Threads + Wait + Sync + Abort>(
         return Ok(None);
     };
     let budget = one_thread(rt, alloc);
-    let asked = Asked {
+    let asked = NightRequest {
         budget: &budget,
         catalog: &catalog,
         changes: &changes,

@@ -13,7 +13,7 @@ use test_given::catalogs::{Cell, Every, joined, one_way, summed};
 use wh_carry::Report;
 use wh_dag::Catalog;
 use wh_maint::are_bags;
-use wh_night::{Asked, Left, NightFault, NoGate, are_fit_for, night};
+use wh_night::{Aftermath, NightFault, NightRequest, NoGate, are_fit_for, night};
 use wh_row::Bag;
 use wh_store::{Ended, Op, Publish};
 use wh_strategy::{Correct, check};
@@ -110,7 +110,7 @@ fn carry_out<R: Threads + Wait + Sync>(
         return Err(Fail::from("tables that are fit for the night"));
     };
     let budget = one_thread(rt, alloc);
-    let asked = Asked {
+    let asked = NightRequest {
         budget: &budget,
         catalog,
         changes,
@@ -122,7 +122,7 @@ fn carry_out<R: Threads + Wait + Sync>(
 }
 
 /// The version that the night made; or the number of the cause for which it was refused, and what it left.
-fn told(answer: &Result<Report, NightFault>) -> Result<u64, (u8, Left)> {
+fn told(answer: &Result<Report, NightFault>) -> Result<u64, (u8, Aftermath)> {
     match answer {
         Ok(report) => Ok(report.version),
         Err(fault) => Err((fault.cause.number(), fault.left)),
@@ -155,7 +155,7 @@ fn assert_night<R: Threads + Wait + Sync + Abort>(
     rt: &R,
     alloc: Global,
     refusals: Refusals,
-    wanted: Result<u64, (u8, Left)>,
+    wanted: Result<u64, (u8, Aftermath)>,
     published: &[Step],
 ) -> Result<(), Fail> {
     let (setting, mut writer) = set(alloc, refusals)?;
@@ -175,16 +175,16 @@ fn assert_held<R: Threads + Wait + Sync + Abort>(
     published: &[Step],
 ) -> Result<(), Fail> {
     let answer = carry_out(rt, alloc, setting, writer)?;
-    assert_eq!(rt; told(&answer), Err((HELD, Left::Untouched)));
+    assert_eq!(rt; told(&answer), Err((HELD, Aftermath::Untouched)));
     assert_published(rt, alloc, writer, published)
 }
 
 #[test]
 fn a_night_whose_begin_is_refused(rt: HostRuntime) -> Result<(), Fail> {
     let alloc = rt.alloc();
-    let untouched = Err((MEMORY, Left::Untouched));
+    let untouched = Err((MEMORY, Aftermath::Untouched));
     assert_night(&rt, alloc, at(1, false, 0), untouched, &[])?;
-    let given_up = Err((MEMORY, Left::GivenUp));
+    let given_up = Err((MEMORY, Aftermath::GivenUp));
     assert_night(
         &rt,
         alloc,
@@ -192,7 +192,7 @@ fn a_night_whose_begin_is_refused(rt: HostRuntime) -> Result<(), Fail> {
         given_up,
         &[Step::Begin, Step::GiveUp],
     )?;
-    let still_open = Err((MEMORY, Left::StillOpen));
+    let still_open = Err((MEMORY, Aftermath::StillOpen));
     let (setting, mut writer) = set(alloc, at(1, true, 1))?;
     let answer = carry_out(&rt, alloc, &setting, &mut writer)?;
     assert_eq!(rt; told(&answer), still_open);
@@ -205,7 +205,7 @@ fn a_night_whose_begin_is_refused(rt: HostRuntime) -> Result<(), Fail> {
 #[test]
 fn a_night_that_is_refused_in_its_midst(rt: HostRuntime) -> Result<(), Fail> {
     let alloc = rt.alloc();
-    let given_up = Err((MEMORY, Left::GivenUp));
+    let given_up = Err((MEMORY, Aftermath::GivenUp));
     let [begin, a, b, v, _commit] = NIGHT;
     let end = Step::GiveUp;
     assert_night(&rt, alloc, at(2, false, 0), given_up, &[begin, end])?;
@@ -227,7 +227,7 @@ fn a_night_whose_commit_is_held(rt: HostRuntime) -> Result<(), Fail> {
     assert_night(&rt, alloc, at(5, true, 0), Ok(1), &NIGHT)?;
     let (setting, mut writer) = set(alloc, at(5, true, 1))?;
     let answer = carry_out(&rt, alloc, &setting, &mut writer)?;
-    assert_eq!(rt; told(&answer), Err((MEMORY, Left::StillOpen)));
+    assert_eq!(rt; told(&answer), Err((MEMORY, Aftermath::StillOpen)));
     let [begin, a, b, v, _commit] = NIGHT;
     assert_published(&rt, alloc, &writer, &[begin, a, b, v])?;
     assert_held(&rt, alloc, &setting, &mut writer, &[begin, a, b, v])?;
@@ -261,7 +261,7 @@ fn a_night_that_is_tested_first(rt: HostRuntime) -> Result<(), Fail> {
     let other = summed(alloc)?;
     let writer = &mut writer;
     let budget = one_thread(&rt, alloc);
-    let of_two = Asked {
+    let of_two = NightRequest {
         budget: &budget,
         catalog: &other,
         changes,
@@ -271,7 +271,7 @@ fn a_night_that_is_tested_first(rt: HostRuntime) -> Result<(), Fail> {
     };
     let night = tested_night(writer, &of_two)?;
     assert!(rt; night.is_none());
-    let of_three = Asked {
+    let of_three = NightRequest {
         budget: &budget,
         catalog,
         changes,

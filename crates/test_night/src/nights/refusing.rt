@@ -4,7 +4,7 @@ ghost use Rattle.std.specs.Prelude.{◌≡◌, ◌≤◌, ◌++◌, ◌∷◌, [
 ghost use Rattle.wh_store.specs.Operations.{operation};
 ghost use Rattle.wh_store.specs.Versions.{versions_of};
 ghost use Rattle.wh_store.specs.Windows.{Shows, current};
-ghost use Rattle.wh_store.specs.Faults.{ended};
+ghost use Rattle.wh_store.specs.Faults.{Ends, EndsLater, ended};
 ghost use Rattle.wh_store.specs.Ledgers.{ledger, gone_out, versions_in, with_held};
 
 use crate::nights::journal::Journal;
@@ -12,7 +12,7 @@ use std::alloc::{AllocError, Global};
 use std::marker::Model;
 use std::sync::Wait;
 use wh_row::Bag;
-use wh_store::{Ended, Op, Publish, PublishFault, Store};
+use wh_store::{Ended, Op, Publish, PublishFault, RefusedEnds, Store};
 
 /// What is refused.
 #[derive(Clone, Copy)]
@@ -62,25 +62,27 @@ fn ended_by(held: &Option<Op>) -> Ended
     }
 }
 
-/// Publishes into a journal. Seen as the ledger: all that was published, and what is held.
+/// Publishes into a journal. Seen as the ledger, which is all that was published and what is held, and how many give-ups were refused.
 #[derive(Drop)]
 pub(crate) struct Refusing {
     journal: Journal,
     held: Option<Op>,
     refusals: Refusals,
+    refused_ends: RefusedEnds,
 }
 
 impl Model for Refusing {
-    ghost use Rattle.std.specs.Prelude.{option_map};
+    ghost use Rattle.std.specs.Prelude.{ℕ, option_map};
+    ghost use Rattle.std.specs.Coded.{coded×, coded_ℕ};
     ghost use Rattle.wh_store.specs.Operations.{operation};
     ghost use Rattle.wh_store.specs.Ledgers.{Ledger, ledger};
     ghost use Rattle.wh_store.specs.Inner.Codes.{coded_ledger};
 
-    ghost Value = { Ledger };
+    ghost Value = { Ledger × ℕ };
 
-    ghost coded = { coded_ledger };
+    ghost coded = { coded× coded_ledger coded_ℕ };
 
-    ghost view = { λ r. ledger r.journal.of r.journal.list (option_map operation r.held) };
+    ghost view = { λ r. (ledger r.journal.of r.journal.list (option_map operation r.held), r.refused_ends.count) };
 }
 
 impl Refusing {
@@ -92,18 +94,19 @@ impl Refusing {
     ) -> Result<Refusing, AllocError>
         requires new { Shows store (current store) [] }
         requires limit { 2 ≤ store.limit }
-        ensures { IfOk result (λ r. r ≡ ledger (record { limit = store.limit; opening = current store }) [] None) }
+        ensures { IfOk result (λ r. r.0 ≡ ledger (record { limit = store.limit; opening = current store }) [] None) }
     {
         Ok(Refusing {
             journal: Journal::new(alloc, store)?,
             held: None,
             refusals,
+            refused_ends: RefusedEnds::none(),
         })
     }
 
     /// The tables of the current version.
     pub(crate) fn tables(&self, alloc: Global) -> Result<Vec<Bag>, AllocError>
-        ensures { IfOk result (λ tables. tables.items ≡ (versions_in self.now.of self.now.list).newest) }
+        ensures { IfOk result (λ tables. tables.items ≡ (versions_in self.now.0.of self.now.0.list).newest) }
     {
         self.journal.tables(alloc)
     }
@@ -115,7 +118,7 @@ impl Refusing {
 
     /// Publishes what is held, which stays held where that is refused.
     fn send_held(&mut self) -> Result<(), AllocError>
-        ensures { MatchResult result (λ _. self.new ≡ ledger self.old.of (gone_out self.old) None) (λ _. self.new ≡ self.old) }
+        ensures { MatchResult result (λ _. self.new ≡ (ledger self.old.0.of (gone_out self.old.0) None, self.old.1)) (λ _. self.new ≡ self.old) }
     {
         match std::mem::replace(&mut self.held, None) {
             None => Ok(()),
@@ -128,14 +131,39 @@ impl Refusing {
             },
         }
     }
+
+    /// Gives up, before a refusal is counted.
+    #[tactic(auto, using(wh_store::proofs::Idle::idle_ends))]
+    fn end_night(&mut self) -> Result<Ended, AllocError>
+        ensures ends { MatchResult result (Ends self.old.0 self.new.0) (λ _. EndsLater self.old.0 self.new.0) }
+        ensures refused_ends { self.new.1 ≡ self.old.1 }
+    {
+        if self.held.is_none() && !self.journal.is_active() {
+            return Ok(Ended::NoneOpen);
+        }
+        if self.refusals.is_give_up_refused() {
+            return Err(AllocError);
+        }
+        let ended = ended_by(&self.held);
+        self.send_held()?;
+        if !self.journal.is_active() {
+            return Ok(ended);
+        }
+        match self.journal.add(Op::GiveUp) {
+            Ok(()) => Ok(Ended::GivenUp),
+            Err(_) => Err(AllocError),
+        }
+    }
 }
 
 impl Publish for Refusing {
-    ghost kept = { λ r. r };
+    ghost kept = { λ r. r.0 };
 
     ghost Home = { Unit {0} };
 
     ghost home = { λ r. tt };
+
+    ghost refused_ends = { λ r. r.1 };
 
     fn publish<R: Wait>(&mut self, _rt: &R, op: Op) -> Result<(), PublishFault> {
         if self.held.is_some() {
@@ -157,23 +185,12 @@ impl Publish for Refusing {
         }
     }
 
-    #[tactic(auto, using(wh_store::proofs::Idle::idle_ends))]
     fn give_up<R: Wait>(&mut self, _rt: &R) -> Result<Ended, AllocError> {
-        if self.held.is_none() && !self.journal.is_active() {
-            return Ok(Ended::NoneOpen);
+        let result = self.end_night();
+        if result.is_err() {
+            self.refused_ends = self.refused_ends.and_one();
         }
-        if self.refusals.is_give_up_refused() {
-            return Err(AllocError);
-        }
-        let ended = ended_by(&self.held);
-        self.send_held()?;
-        if !self.journal.is_active() {
-            return Ok(ended);
-        }
-        match self.journal.add(Op::GiveUp) {
-            Ok(()) => Ok(Ended::GivenUp),
-            Err(_) => Err(AllocError),
-        }
+        result
     }
 
     fn current(&self) -> u64 {

@@ -13,7 +13,7 @@ use wh_carry::{Report, are_fit};
 use wh_dag::Catalog;
 use wh_desk::{Writer, open_warehouse};
 use wh_maint::are_bags;
-use wh_night::{Asked, Left, NightFault, NoGate};
+use wh_night::{Aftermath, NightFault, NightRequest, NoGate};
 use wh_row::Bag;
 use wh_store::Store;
 use wh_strategy::{Correct, check};
@@ -34,32 +34,26 @@ pub(crate) fn table_of(writer: &Writer) -> Option<Bag> {
     writer.table(2).ok()
 }
 
-/// Carries the strategy out over a writer of these tables with so many workers, and ends the writer. None where they are not what a night asks for.
+/// Carries the strategy out over a writer of these tables, and ends the writer. None where they are not what a night asks for.
 fn over_writer<R: Threads + Wait + Sync>(
-    rt: &R,
-    alloc: Global,
+    budget: &ThreadBudget<'_, R>,
     catalog: &Catalog<Every, Cell>,
     tables: Vec<Bag>,
     changes: &[Bag],
     correct: &Correct,
-    workers: usize,
 ) -> Result<Option<Answer>, Fail>
-    requires { (1 ≤ workers) × (workers ≤ 16) }
+    requires { (1 ≤ budget.now.threads) × (budget.now.threads ≤ 16) }
 {
+    let alloc = budget.alloc;
     if !are_bags(catalog, &tables) || !are_fit(alloc, catalog, &tables)? {
         return Ok(None);
     }
     let store = Store::new(alloc, &tables, 2)?;
-    let Ok((mut writer, _desks)) = open_warehouse(rt, alloc, store, 1) else {
+    let Ok((mut writer, _desks)) = open_warehouse(budget.rt, alloc, store, 1) else {
         return Ok(None);
     };
-    let budget = ThreadBudget {
-        rt,
-        alloc,
-        threads: workers,
-    };
-    let asked = Asked {
-        budget: &budget,
+    let asked = NightRequest {
+        budget,
         catalog,
         changes,
         correct,
@@ -68,7 +62,7 @@ fn over_writer<R: Threads + Wait + Sync>(
     };
     let night = tested_night(&mut writer, &asked);
     let table = table_of(&writer);
-    writer.end(rt);
+    writer.end(budget.rt);
     match night? {
         Some(night) => Ok(Some(Answer { night, table })),
         None => Ok(None),
@@ -103,7 +97,12 @@ fn published_by<R: Threads + Wait + Sync>(
     let Ok(correct) = check(alloc, catalog.shape(), one_way(alloc)?) else {
         return Ok(None);
     };
-    over_writer(rt, alloc, &catalog, tables, &changes, &correct, workers)
+    let budget = ThreadBudget {
+        rt,
+        alloc,
+        threads: workers,
+    };
+    over_writer(&budget, &catalog, tables, &changes, &correct)
 }
 
 /// Whether the night has made version 1 with these rows of its steps, and v then has exactly these rows, once each.
@@ -182,7 +181,7 @@ fn absent_row(rt: HostRuntime) -> Result<(), Fail> {
             },
         ) => {
             fault.cause.number() == 4
-                && fault.left == Left::Untouched
+                && fault.left == Aftermath::Untouched
                 && has_rows(table, &[&[1, 5], &[2, 5]])
         }
         _ => false,

@@ -18,7 +18,7 @@ use std::thread::Threads;
 use test_given::catalogs::{Cell, Every, joined, one_way};
 use wh_desk::{Desk, Writer, seen_versions_stay_law};
 use wh_maint::are_bags;
-use wh_night::{Asked, NoGate, night};
+use wh_night::{NightRequest, NoGate, night};
 use wh_store::Page;
 use wh_strategy::check;
 
@@ -46,7 +46,7 @@ fn read_told(writer: &Writer, desk: &mut Desk, view: usize) -> Option<Page>
 
 /// What a reader is given of a view before a night and after it. Its first session stays open while the night runs.
 fn read_before_and_after<R: Threads + Wait + Sync>(
-    asked: &Asked<'_, Every, Cell, NoGate, R>,
+    asked: &NightRequest<'_, Every, Cell, NoGate, R>,
     writer: &mut Writer,
     desk: &mut Desk,
     view: usize,
@@ -102,7 +102,7 @@ fn a_reader_is_told_of_a_night(rt: HostRuntime) -> Result<(), Fail> {
         return Err(Fail::from("a desk"));
     };
     let budget = one_thread(&rt, alloc);
-    let asked = Asked {
+    let asked = NightRequest {
         budget: &budget,
         catalog: &catalog,
         changes: &changes,

@@ -8,14 +8,14 @@ use std::thread::Threads;
 use wh_carry::Report;
 use wh_formula::{RowTest, RowValue};
 use wh_maint::are_bags;
-use wh_night::{Asked, NightFault, NoGate, are_fit_for, current_tables, night};
+use wh_night::{NightFault, NightRequest, NoGate, are_fit_for, current_tables, night};
 use wh_store::Publish;
 
 /// Carries a night out. None where something is held, or one of these does not belong to the other: what is published, the catalogue,
 /// the changes, the strategy.
 pub(crate) fn tested_night<P: Publish, F: RowTest, G: RowValue, R: Threads + Wait + Sync>(
     writer: &mut P,
-    asked: &Asked<'_, F, G, NoGate, R>,
+    asked: &NightRequest<'_, F, G, NoGate, R>,
 ) -> Result<Option<Result<Report, NightFault>>, Fail>
     requires workers { (1 ≤ asked.now.budget.now.threads) × (asked.now.budget.now.threads ≤ 16) }
     requires page_keys { (1 ≤ asked.now.page_keys) × (asked.now.page_keys ≤ 256) }

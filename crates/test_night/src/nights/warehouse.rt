@@ -18,7 +18,7 @@ use test_given::tables::{bag, two_bags};
 use wh_dag::Catalog;
 use wh_desk::{Desk, Writer, open_warehouse};
 use wh_maint::are_bags;
-use wh_night::{Asked, Gate, are_fit_for, night};
+use wh_night::{Gate, NightRequest, are_fit_for, night};
 use wh_row::Bag;
 use wh_store::Store;
 use wh_strategy::Correct;
@@ -59,7 +59,7 @@ pub(crate) fn store_of(
     Ok(Some(Store::new(alloc, &tables, 2)?))
 }
 
-/// A warehouse of these tables with one desk. None where they are not what this night asks for.
+/// A warehouse of these tables with two desks. None where they are not what this night asks for.
 pub(crate) fn warehouse_of<R: Wait>(
     rt: &R,
     alloc: Global,
@@ -75,21 +75,24 @@ pub(crate) fn warehouse_of<R: Wait>(
     ensures same { IfOk result (λ made. IfSome made (λ w. All (λ d. d.book ≡ w.0.book) w.1.items)) }
 {
     match store_of(alloc, catalog, tables, changes, correct)? {
-        Some(store) => Ok(open_warehouse(rt, alloc, store, 1).ok()),
+        Some(store) => Ok(open_warehouse(rt, alloc, store, 2).ok()),
         None => Ok(None),
     }
 }
 
 /// Carries the strategy out over a writer of these tables, with this gate, and ends the writer. None where they are not what a night asks for.
 pub(crate) fn night_at<R: Threads + Wait + Sync, T: Gate + Sync>(
-    rt: &R,
-    alloc: Global,
+    budget: &ThreadBudget<'_, R>,
     catalog: &Catalog<Every, Cell>,
     tables: Vec<Bag>,
     changes: &[Bag],
     correct: &Correct,
     gate: &T,
-) -> Result<Option<Answer>, Fail> {
+) -> Result<Option<Answer>, Fail>
+    requires { budget.now.threads ≡ 1 }
+{
+    let rt = budget.rt;
+    let alloc = budget.alloc;
     if !correct.is_of(catalog.shape()) || !are_bags(catalog, changes) {
         return Ok(None);
     }
@@ -97,9 +100,8 @@ pub(crate) fn night_at<R: Threads + Wait + Sync, T: Gate + Sync>(
     else {
         return Ok(None);
     };
-    let budget = one_thread(rt, alloc);
-    let asked = Asked {
-        budget: &budget,
+    let asked = NightRequest {
+        budget,
         catalog,
         changes,
         correct,

@@ -103,8 +103,7 @@ fn judged(rt: &impl Abort, given: &Measured, planned: &Planned) -> Verdict {
 
 /// Finds a plan of this list, this scope and this work, with so many lines.
 fn finds(
-    rt: &impl Abort,
-    alloc: Global,
+    rt: &(impl Abort + AllocGlobal),
     by: By,
     views: &[(&str, &str)],
     rows: &[(u64, u64, u64)],
@@ -112,6 +111,7 @@ fn finds(
     wanted: (&str, Scope, u128, usize),
 ) -> Result<Vec<PairMin>, Fail> {
     let (list, scope, work, lines) = wanted;
+    let alloc = rt.alloc();
     match found(rt, alloc, by, views, rows, budget)? {
         Ok(found) => {
             assert_eq!(rt; found.list.as_str(), list);
@@ -141,8 +141,8 @@ static TIED: (&str, Scope, u128, usize) = ("V1<C C V1<B V2<V1 V1 V2<B B V2", Sco
 #[test]
 fn a_cyclic_order_is_searched(rt: HostRuntime) -> Result<(), Fail> {
     let alloc = rt.alloc();
-    finds(&rt, alloc, By::Plan, &CYCLIC, &CYCLIC_SIZES, 5, ONE_WAY)?;
-    finds(&rt, alloc, By::Prune, &CYCLIC, &CYCLIC_SIZES, 5, ONE_WAY)?;
+    finds(&rt, By::Plan, &CYCLIC, &CYCLIC_SIZES, 5, ONE_WAY)?;
+    finds(&rt, By::Prune, &CYCLIC, &CYCLIC_SIZES, 5, ONE_WAY)?;
     Ok(())
 }
 
@@ -150,7 +150,7 @@ fn a_cyclic_order_is_searched(rt: HostRuntime) -> Result<(), Fail> {
 #[test]
 fn a_search_may_reach_the_pair_bound(rt: HostRuntime) -> Result<(), Fail> {
     let alloc = rt.alloc();
-    let lines = finds(&rt, alloc, By::Plan, &CYCLIC, &TIED_SIZES, 5, TIED)?;
+    let lines = finds(&rt, By::Plan, &CYCLIC, &TIED_SIZES, 5, TIED)?;
     let right = [
         PairMin {
             parent: 2,
@@ -166,7 +166,7 @@ fn a_search_may_reach_the_pair_bound(rt: HostRuntime) -> Result<(), Fail> {
         },
     ];
     assert_eq!(rt; lines.as_slice(), right.as_slice());
-    finds(&rt, alloc, By::Prune, &CYCLIC, &TIED_SIZES, 5, TIED)?;
+    finds(&rt, By::Prune, &CYCLIC, &TIED_SIZES, 5, TIED)?;
     Ok(())
 }
 
@@ -216,24 +216,15 @@ fn refusals_of_a_search_have_their_numbers(rt: HostRuntime) {
 fn a_plan_without_a_search_needs_no_budget(rt: HostRuntime) -> Result<(), Fail> {
     let alloc = rt.alloc();
     let b_first = ("V<B B V<A A V", Scope::All, 154, 1);
-    finds(
-        &rt,
-        alloc,
-        By::Plan,
-        &TWO_BASES,
-        &TWO_BASES_SIZES,
-        1,
-        b_first,
-    )?;
+    finds(&rt, By::Plan, &TWO_BASES, &TWO_BASES_SIZES, 1, b_first)?;
     let bases = [("A", "-"), ("B", "-")];
     let sizes = [(10, 12, 4), (5, 5, 0)];
     let alone = ("A B", Scope::All, 4, 0);
-    finds(&rt, alloc, By::Plan, &bases, &sizes, 1, alone)?;
-    finds(&rt, alloc, By::Prune, &bases, &sizes, 1, alone)?;
+    finds(&rt, By::Plan, &bases, &sizes, 1, alone)?;
+    finds(&rt, By::Prune, &bases, &sizes, 1, alone)?;
     let list = "V<A1 A1 V<A2 A2 V<A3 A3 V<A4 A4 V<A5 A5 V<A6 A6 V";
     let lines = finds(
         &rt,
-        alloc,
         By::Plan,
         &SIX,
         &SIX_SIZES,
@@ -243,6 +234,6 @@ fn a_plan_without_a_search_needs_no_budget(rt: HostRuntime) -> Result<(), Fail> 
     assert!(rt; lines.iter().all(|line| line.least == 20));
     // A search that gave up at once would spend this budget.
     let wanted = (list, Scope::All, 313, 15);
-    finds(&rt, alloc, By::Prune, &SIX, &SIX_SIZES, 1, wanted)?;
+    finds(&rt, By::Prune, &SIX, &SIX_SIZES, 1, wanted)?;
     Ok(())
 }

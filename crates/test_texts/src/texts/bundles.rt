@@ -4,7 +4,9 @@ use crate::texts::cases::{Reads, agree, fault_line, text_of};
 use std::alloc::{AllocError, Global};
 use std::borrow::CowSlice;
 use std::test::Fail;
-use wh_load::{Bundle, Heading, LoadFault, Nights, Part, PartFault, Piece, Scope, Word, parts};
+use wh_load::{
+    Bundle, Heading, InputSlice, LoadFault, Nights, Part, PartFault, Scope, Word, parts,
+};
 
 const TWO_NIGHTS: &str = "
  \t\r
@@ -307,8 +309,8 @@ fn found_in_nights(alloc: Global) -> Result<String, AllocError> {
     let headings = [
         Heading::Catalogue,
         Heading::Strategy,
-        Heading::Data(Piece::new(b"b")),
-        Heading::Changes(Piece::new(b"a")),
+        Heading::Data(InputSlice::new(b"b")),
+        Heading::Changes(InputSlice::new(b"a")),
     ];
     let nights = bundle.nights();
     let texts = found_texts(alloc, &bundle, &headings)?;

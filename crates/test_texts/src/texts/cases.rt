@@ -8,7 +8,7 @@ use std::alloc::{AllocError, Global};
 use std::process::Abort;
 use std::thread::Threads;
 use wh_dag::Shape;
-use wh_load::{LoadFault, Names, Nights, read_shape};
+use wh_load::{ChunkedText, LoadFault, Names, Nights, read_shape};
 use wh_threads::ThreadBudget;
 
 /// What a text is read as.
@@ -52,6 +52,17 @@ pub(crate) fn text_of(alloc: Global, bytes: &[u8]) -> Result<String, AllocError>
         text.push(char::from(*byte))?;
     }
     Ok(text)
+}
+
+/// The bytes of a text in chunks.
+pub(crate) fn chunked_bytes(alloc: Global, text: &ChunkedText) -> Result<Vec<u8>, AllocError> {
+    let chunks = text.chunks();
+    let mut bytes = Vec::new(alloc);
+    for chunk in chunks.finished {
+        bytes.extend_from_slice(chunk)?;
+    }
+    bytes.extend_from_slice(chunks.last)?;
+    Ok(bytes)
 }
 
 /// A fault as its number and the line that is printed for it.

@@ -70,7 +70,7 @@ fn outcome<R: Threads + Sync>(
 ) -> Result<String, AllocError> {
     let columns = columns_of(alloc, columns)?;
     let mut dict = Dict::new(alloc);
-    let _ = dict.number(alloc, "name 7")?;
+    let _ = dict.intern(alloc, "name 7")?;
     let budget = ThreadBudget { rt, alloc, threads };
     let read = read_table(&budget, &columns, text.as_bytes(), &mut dict);
     let mut out = written(&budget, &columns, read, &dict)?;

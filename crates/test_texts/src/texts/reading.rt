@@ -3,7 +3,7 @@
 use std::io;
 use std::io::{ErrorKind, Read};
 use wh_load::{ReadFault, read_all};
-use wh_stream::Counted;
+use wh_stream::CountedStream;
 
 // Gives `left` bytes one by one, and then an error, or the end.
 #[derive(Drop)]
@@ -29,10 +29,10 @@ impl Read for Dripping {
 #[test]
 fn all_bytes_up_to_the_limit_are_read(rt: HostRuntime) {
     let text: &[u8] = b"abc";
-    let all = read_all(&mut Counted::new(text), rt.alloc(), 3);
+    let all = read_all(&mut CountedStream::new(text), rt.alloc(), 3);
     assert!(&rt; all.is_ok_and(|v| v.as_slice() == b"abc".as_slice()));
     let longer: &[u8] = b"abcd";
-    let refused = read_all(&mut Counted::new(longer), rt.alloc(), 3);
+    let refused = read_all(&mut CountedStream::new(longer), rt.alloc(), 3);
     assert!(&rt; refused.is_err_and(|e| e == ReadFault::TooLong));
 }
 
@@ -42,7 +42,7 @@ fn a_reader_that_drips_is_read_to_its_end(rt: HostRuntime) {
         left: 3_000_000,
         fails: false,
     };
-    let all = read_all(&mut Counted::new(reader), rt.alloc(), 3_000_000);
+    let all = read_all(&mut CountedStream::new(reader), rt.alloc(), 3_000_000);
     assert!(&rt; all.is_ok_and(|v| v.len() == 3_000_000 && v.capacity() < 3_600_000));
 }
 
@@ -52,7 +52,7 @@ fn any_error_of_the_reader_is_a_read_fault(rt: HostRuntime) {
         left: 2,
         fails: true,
     };
-    let all = read_all(&mut Counted::new(reader), rt.alloc(), 3);
+    let all = read_all(&mut CountedStream::new(reader), rt.alloc(), 3);
     assert!(&rt; all.is_err_and(|e| e == ReadFault::Read));
     assert!(&rt; ReadFault::Read.number() == 10 && ReadFault::Memory.number() == 11);
     assert!(&rt; ReadFault::TooLong.number() == 13);

@@ -2,14 +2,15 @@
 
 mod given;
 
-use crate::texts::cases::{Reads, agree, fault_line, text_of};
+use crate::texts::cases::{Reads, agree, chunked_bytes, fault_line, text_of};
 use crate::texts::definitions::dict_lines;
 use crate::texts::schedules::schedule_lines;
 use given::{FAULTS, NIGHTS, NO_NIGHT};
 use std::alloc::{AllocError, Global};
 use std::thread::Threads;
 use wh_load::{
-    Dict, GivenNight, Names, ReplayInput, WrittenView, read_for_replay, write_strategy, write_table,
+    ChunkedText, Dict, GivenNight, Names, ReplayInput, WrittenView, read_for_replay,
+    write_strategy, write_table,
 };
 use wh_row::Bag;
 use wh_threads::ThreadBudget;
@@ -21,11 +22,11 @@ fn rows_text<R: Threads + Sync>(
     rows: &[Bag],
     dict: &Dict,
 ) -> Result<String, AllocError> {
-    let mut out = Vec::new(budget.alloc);
+    let mut out = ChunkedText::new(budget.alloc);
     for (view, own) in views.iter().zip(rows) {
         write_table(budget, &mut out, &view.columns, own, dict)?;
     }
-    text_of(budget.alloc, &out)
+    text_of(budget.alloc, &chunked_bytes(budget.alloc, &out)?)
 }
 
 /// What is given of a night: its changes as tables, and its strategy.

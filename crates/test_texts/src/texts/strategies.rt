@@ -118,9 +118,9 @@ fn views_are_found_by_name(rt: HostRuntime) -> Result<(), Fail> {
     let names = two_children_names(rt.alloc())?;
     let found = (
         names.len(),
-        names.number(b"V"),
-        names.number(b"v"),
-        names.number(b"\xff"),
+        names.position(b"V"),
+        names.position(b"v"),
+        names.position(b"\xff"),
     );
     assert!(&rt; found == (3, Some(2), None, None));
     Ok(())

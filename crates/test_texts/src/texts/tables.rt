@@ -3,7 +3,7 @@
 mod given;
 mod wide;
 
-use crate::texts::cases::{Reads, agree, fault_line, text_of};
+use crate::texts::cases::{Reads, agree, chunked_bytes, fault_line, text_of};
 use crate::texts::definitions::{dict_lines, read_catalogue};
 use given::{
     CHANGES, NIGHT_B, NIGHT_CHANGES, NIGHT_V, NUMBERS, SUMMARY_CHANGES, SUMMARY_TABLE, TABLES,
@@ -12,7 +12,7 @@ use given::{
 use std::alloc::{AllocError, Global};
 use std::test::Fail;
 use std::thread::Threads;
-use wh_load::{Column, Dict, Kind, LoadFault, read_changes, read_table, write_table};
+use wh_load::{ChunkedText, Column, Dict, Kind, LoadFault, read_changes, read_table, write_table};
 use wh_row::Bag;
 use wh_threads::ThreadBudget;
 
@@ -38,9 +38,9 @@ pub(crate) fn written<R: Threads + Sync>(
 ) -> Result<String, AllocError> {
     match read {
         Ok(bag) => {
-            let mut out = Vec::new(budget.alloc);
+            let mut out = ChunkedText::new(budget.alloc);
             write_table(budget, &mut out, columns, &bag, dict)?;
-            text_of(budget.alloc, &out)
+            text_of(budget.alloc, &chunked_bytes(budget.alloc, &out)?)
         }
         Err(fault) => fault_line(budget.alloc, &fault),
     }

@@ -2,7 +2,7 @@
 
 ghost use Rattle.std.specs.Prelude.{◌≤◌};
 
-use crate::nights::workers::{added, job};
+use crate::nights::workers::{added, job, threads_of};
 use std::alloc::Global;
 use std::process::Abort;
 use std::sync::Wait;
@@ -15,7 +15,7 @@ use wh_dag::{Catalog, Definition, Output};
 use wh_desk::open_warehouse;
 use wh_formula::{Combiner, Expr, Filter, Pred};
 use wh_maint::are_bags;
-use wh_night::{Asked, Gate, are_fit_for, night};
+use wh_night::{Gate, NightRequest, are_fit_for, night};
 use wh_row::Bag;
 use wh_store::Store;
 use wh_strategy::{Expression, Sources, Strategy, check};
@@ -141,7 +141,7 @@ fn goes_out<R: Threads + Wait + Sync + Abort>(
         alloc,
         threads: 2,
     };
-    let asked = Asked {
+    let asked = NightRequest {
         budget: &budget,
         catalog,
         changes: &changes,
@@ -163,7 +163,8 @@ fn two_comps_meet_in_a_wave(rt: HostRuntime) -> Result<(), Fail> {
     jobs.push(job(alloc, 2, 0)?)?;
     jobs.push(job(alloc, 3, 0)?)?;
     let gate = Meeting::new();
-    let added = added(&rt, alloc, &catalog, &jobs, &tables, &tables, 2, &gate)?;
+    let budget = threads_of(&rt, alloc, 2);
+    let added = added(&budget, &catalog, &jobs, &tables, &tables, &gate)?;
     assert!(&rt; added.is_some_and(|added| added.len() == 2));
     assert!(&rt; gate.has_met());
     Ok(())

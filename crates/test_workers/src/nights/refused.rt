@@ -1,4 +1,4 @@
-//! Nights by two workers, beside a desk that reads the version before, where any call for memory may be refused: `tools/try_refusals`
+//! Nights by two workers, beside a desk that reads the version before, where any call for memory may be refused: `trials/run program/refusals`
 //! refuses each in turn. What a refused night leaves is given up; the desk reads version 0 to the end of its pages, and the same
 //! night then goes out. A test that lacks memory twice in the same place says so, and fails.
 
@@ -15,7 +15,7 @@ use wh_carry::{Report, are_fit};
 use wh_dag::Catalog;
 use wh_desk::{Desk, DeskFault, Writer, open_warehouse};
 use wh_maint::are_bags;
-use wh_night::{Asked, Left, NightFault, NoGate, are_fit_for, current_tables, night};
+use wh_night::{Aftermath, NightFault, NightRequest, NoGate, are_fit_for, current_tables, night};
 use wh_row::{Bag, Row};
 use wh_store::{Ended, Publish, Store};
 use wh_strategy::{Correct, Strategy, check};
@@ -160,7 +160,7 @@ fn carry_out<P: Publish, R: Threads + Wait + Sync>(
         alloc,
         threads: 2,
     };
-    let asked = Asked {
+    let asked = NightRequest {
         budget: &budget,
         catalog,
         changes,
@@ -181,9 +181,9 @@ fn give_up<P: Publish, R: Wait + Abort>(
     assert_eq!(rt; fault.cause.number(), 1);
     let mut next = 2;
     match fault.left {
-        Left::Untouched => next = 1,
-        Left::GivenUp => {}
-        Left::StillOpen => {
+        Aftermath::Untouched => next = 1,
+        Aftermath::GivenUp => {}
+        Aftermath::StillOpen => {
             let mut ended = writer.give_up(rt);
             if ended.is_err() {
                 ended = writer.give_up(rt);
@@ -271,15 +271,15 @@ fn assert_night<R: Threads + Wait + Sync + Abort>(
 }
 
 /// Opens a warehouse of one desk, and asserts what is to be of this night.
-fn assert_of<'a, R: Threads + Wait + Sync + Abort>(
+fn assert_of<'a, R: Threads + Wait + Sync + Abort + AllocGlobal>(
     rt: &R,
-    alloc: Global,
     catalog: Catalog<Every, Cell>,
     list: Strategy,
     changes: &[Rows<'_>],
     before: &'a [Rows<'a>],
     after: &'a [Rows<'a>],
 ) -> Result<(), Fail> {
+    let alloc = rt.alloc();
     let Ok(correct) = check(alloc, catalog.shape(), list) else {
         return Err(want_of_memory());
     };
@@ -328,15 +328,7 @@ fn two_table_night_where_memory_may_be_refused(rt: HostRuntime) -> Result<(), Fa
         &[(&[1, 6], 1), (&[3, 6], 1)],
     ];
     let catalog = joined(alloc)?;
-    assert_of(
-        &rt,
-        alloc,
-        catalog,
-        one_way(alloc)?,
-        &changes,
-        &before,
-        &after,
-    )
+    assert_of(&rt, catalog, one_way(alloc)?, &changes, &before, &after)
 }
 
 /// B has 1 and gets 2, C has 5. V1 has B.x of each pair of B and C, and V2 has V1.x of each pair of B and V1.
@@ -353,5 +345,5 @@ fn two_comps_of_a_wave_where_memory_may_be_refused(rt: HostRuntime) -> Result<()
     ];
     let catalog = meeting::catalog(&rt, alloc)?;
     let list = meeting::one_way(alloc)?;
-    assert_of(&rt, alloc, catalog, list, &changes, &before, &after)
+    assert_of(&rt, catalog, list, &changes, &before, &after)
 }

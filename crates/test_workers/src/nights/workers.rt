@@ -1,6 +1,6 @@
 //! Waves whose jobs are drawn by workers.
 
-ghost use Rattle.std.specs.Prelude.{◌≤◌};
+ghost use Rattle.std.specs.Prelude.{◌≡◌, ◌≤◌};
 
 use std::alloc::Global;
 use std::process::Abort;
@@ -60,32 +60,36 @@ impl Gate for Counting {
     }
 }
 
-/// What these jobs add, by so many workers. None where they cannot be run, or are refused.
-pub(crate) fn added<R: Threads + Sync, T: Gate + Sync>(
+/// So many threads.
+pub(crate) fn threads_of<R: Threads + Sync>(
     rt: &R,
     alloc: Global,
+    threads: usize,
+) -> ThreadBudget<'_, R>
+    ensures { result.threads ≡ threads }
+{
+    ThreadBudget { rt, alloc, threads }
+}
+
+/// What these jobs add. None where they cannot be run, or are refused.
+pub(crate) fn added<R: Threads + Sync, T: Gate + Sync>(
+    budget: &ThreadBudget<'_, R>,
     catalog: &Catalog<Every, Cell>,
     jobs: &[Job],
     tables: &[Bag],
     changes: &[Bag],
-    workers: usize,
     gate: &T,
 ) -> Result<Option<Vec<Pending>>, Fail>
-    requires { (1 ≤ workers) × (workers ≤ 16) }
+    requires { (1 ≤ budget.now.threads) × (budget.now.threads ≤ 16) }
 {
     if !are_bags(catalog, tables) || !are_bags(catalog, changes) {
         return Ok(None);
     }
-    let state = NightState::new(alloc, catalog, tables, changes)?;
+    let state = NightState::new(budget.alloc, catalog, tables, changes)?;
     if !can_run_wave(catalog, jobs, &state) {
         return Ok(None);
     }
-    let budget = ThreadBudget {
-        rt,
-        alloc,
-        threads: workers,
-    };
-    Ok(run_wave(&budget, catalog, jobs, &state, gate).ok())
+    Ok(run_wave(budget, catalog, jobs, &state, gate).ok())
 }
 
 /// comp of this view from this one
@@ -106,7 +110,8 @@ fn sixteen_workers_one_job(rt: HostRuntime) -> Result<(), Fail> {
     changes.push(Bag::new(alloc))?;
     let jobs = vec![in alloc; job(alloc, 2, 0)?]?;
     let gate = Counting::new();
-    let added = added(&rt, alloc, &catalog, &jobs, &tables, &changes, 16, &gate)?;
+    let budget = threads_of(&rt, alloc, 16);
+    let added = added(&budget, &catalog, &jobs, &tables, &changes, &gate)?;
     let right = match &added {
         Some(added) => match added.as_slice() {
             [one] => one.count(&[2, 5]) == -1 && one.count(&[3, 5]) == 1,
@@ -174,9 +179,10 @@ fn a_thousand_waves_of_twenty_jobs(rt: HostRuntime) -> Result<(), Fail> {
     for view in 1..21 {
         jobs.push(job(alloc, view, 0)?)?;
     }
+    let budget = threads_of(&rt, alloc, 16);
     for _ in 0..1000 {
         let gate = Counting::new();
-        let added = added(&rt, alloc, &catalog, &jobs, &tables, &changes, 16, &gate)?;
+        let added = added(&budget, &catalog, &jobs, &tables, &changes, &gate)?;
         let right = match &added {
             Some(added) => are_of_twenty(added),
             None => false,
@@ -192,7 +198,8 @@ fn no_jobs_add_nothing(rt: HostRuntime) -> Result<(), Fail> {
     let alloc = rt.alloc();
     let catalog = twenty(&rt, alloc)?;
     let tables = first_of(alloc, &[])?;
-    let added = added(&rt, alloc, &catalog, &[], &tables, &tables, 16, &NoGate)?;
+    let budget = threads_of(&rt, alloc, 16);
+    let added = added(&budget, &catalog, &[], &tables, &tables, &NoGate)?;
     assert!(&rt; added.is_some_and(|added| added.is_empty()));
     Ok(())
 }

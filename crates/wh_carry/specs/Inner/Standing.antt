@@ -25,7 +25,7 @@ use Rattle.wh_strategy.specs.Rules.{IsCorrect}
 use Rattle.wh_carry.specs.Kept.{Kept}
 use Rattle.wh_carry.specs.Inner.Agreeing.{Agrees, AreTold}
 use Rattle.wh_carry.specs.Night.{Night, state_at}
-use Rattle.wh_carry.specs.Standing.{place_behind}
+use Rattle.wh_carry.specs.Stages.{place_behind}
 
 -- what is kept is what the expressions before this place of a correct list have made, with the changes that are known
 pub record StandsAt (n : Night) (place : ℕ) (k : Kept) : Type 0 where

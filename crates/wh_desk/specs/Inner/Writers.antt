@@ -1,13 +1,11 @@
 -- What callers see of a writer, and what holds of it: what only proofs and private contracts use.
-use Rattle.std.specs.Prelude.{◌≡◌, List, [], ◌∷◌, ◌++◌, Option, Some, None, MatchOption, MatchResult, Result, Err, refl}
-use Rattle.std.specs.Coded.{Coded, code_by, coded×}
+use Rattle.std.specs.Prelude.{◌≡◌, ℕ, List, [], ◌∷◌, ◌++◌, Option, Some, None, refl}
+use Rattle.std.specs.Coded.{Coded, code_by, coded×, coded_ℕ}
 use Rattle.logbook.specs.Pages.{Book, book_coded}
 use Rattle.wh_store.specs.Operations.{Operation, operation, Opens, Writes, Commits, Gives_up}
 use Rattle.wh_store.specs.Refusals.{refusal}
-use Rattle.wh_store.specs.Ledgers.{Ledger, ledger}
+use Rattle.wh_store.specs.Ledgers.{Ledger}
 use Rattle.wh_store.specs.Inner.Codes.{coded_ledger}
-use Rattle.wh_store.specs.Faults.{IsOkUnlessMemory, publish_refusal, refused}
-use Rattle.wh_store.specs.declared.publish_fault.PublishFault.{PublishFault}
 use Rattle.wh_store.specs.declared.ended.Ended.{Ended}
 use Rattle.wh_store.specs.declared.ended.Ended.TheVariants.{Committed, GivenUp}
 use Rattle.wh_desk.specs.declared.inner.Inner.{Inner}
@@ -15,7 +13,7 @@ use Rattle.wh_desk.specs.declared.kept.Kept.{Kept}
 use Rattle.wh_desk.specs.declared.kept.Publication.{Publication}
 use Rattle.wh_desk.specs.Known.{Known, known, IsStory}
 use Rattle.wh_desk.specs.Rules.{IsCopy}
-use Rattle.wh_desk.specs.Writers.{Writing, writing, copy_of, waiting, held_of}
+use Rattle.wh_desk.specs.Writers.{Writing, writing, written, copy_of, waiting, held_of}
 
 -- what waits, one operation at most, goes on from the published list of x up to the whole history h
 abbrev pub Waits : Kept → List Publication → Known → Type 0
@@ -40,10 +38,6 @@ IsWriter w =
     IsCopy (copy_of w) × Waits (copy_of w) (waiting w) w.history × IsStory w.history × (w.ends ≡ end_of_held (held_of (waiting w)))
 
 abbrev pub coded_writing : Coded Writing
-coded_writing = code_by (Book × Ledger) (coded× book_coded coded_ledger) (λ w. (w.book, w.ledger)) (λ t. writing t.0 t.1) (λ _. refl)
-
--- how an operation is published, or why it is not and what that leaves
-abbrev pub Publishes : Writing → Operation → Result (Unit {0}) PublishFault → Writing → Type 0
-Publishes w op r v =
-    MatchResult r (λ _. v ≡ writing w.book (ledger w.ledger.of (w.ledger.list ++ op ∷ []) None)) (λ fault. v ≡ writing w.book (refused w.ledger op fault))
-    × MatchOption (publish_refusal w.ledger op) (IsOkUnlessMemory r) (λ fault. r ≡ Err fault)
+coded_writing =
+    code_by (Book × (Ledger × ℕ)) (coded× book_coded (coded× coded_ledger coded_ℕ)) (λ w. (w.book, (w.ledger, w.refused_ends)))
+    (λ t. writing (written t.0 t.1.0) t.1.1) (λ _. refl)

@@ -1,7 +1,7 @@
-//! The rows of small parts, read beside each other.
+//! Reads the rows of small parts beside each other.
 //!
-//! A small part is not worth several threads. Where there are several of them, each is read by one thread while others read others,
-//! as if no text had a number yet. So it does not matter who is faster: the texts get their numbers later, in the order of the views.
+//! A small part is not worth several threads. Where there are several of them, each is read by one thread while others read others, as if
+//! no text had a number yet. So it does not matter who is faster: the texts get their numbers later, in the order of the views.
 
 ghost use Rattle.std.specs.Prelude.{◌≡◌, ◌++◌, ℕ, List, All, IfSome, map, option_map, option_to_list};
 ghost use Rattle.wh_text_bundle.specs.declared.bundle.part.Part.{Part};
@@ -18,7 +18,7 @@ use wh_text_bundle::Bundle;
 use wh_text_tables::{RowsAhead, read_ahead};
 use wh_threads::{ThreadBudget, Work};
 
-/// Rows of a view that were read ahead.
+/// The rows of a view that were read ahead.
 #[derive(Drop)]
 pub struct ViewAhead {
     /// The view's number.
@@ -34,7 +34,8 @@ struct SmallPart {
     bytes: usize,
 }
 
-/// What was read ahead of these rows of the views, the last view first: nothing where no two threads are worth it.
+/// Reads the small parts of these rows ahead, by several threads, the last view first in the list. The list is empty where no two threads
+/// are worth it, or memory is refused.
 pub fn read_small_parts<R: Threads + Sync>(
     budget: &ThreadBudget<'_, R>,
     bundle: &Bundle<'_>,
@@ -202,7 +203,7 @@ fn together(alloc: Global, groups: Vec<Option<Vec<ViewAhead>>>) -> Option<Vec<Vi
     Some(all)
 }
 
-/// Takes what was read ahead of this view, where it is the next, which is the last of the list.
+/// Takes what was read ahead of this view off the list, if it is the list's last; else it is `None`.
 pub fn take_next(ahead: &mut Vec<ViewAhead>, view: usize) -> Option<RowsAhead>
     ensures { ahead.old.items ≡ ahead.new.items ++ option_to_list (option_map (λ rows. record { view = view; rows = rows }) result) }
 {

@@ -1,4 +1,4 @@
-//! Whether the parts of rows are of base views.
+//! Tests whether the parts of rows are of base views.
 
 ghost use Rattle.std.specs.Prelude.{◌≡◌, ◌≢◌, ◌⊎◌, find, map, option_copied, None, Some, IfErr, OnOk, OnErr};
 ghost use Rattle.wh_text_catalogue.specs.Definitions.{shown_view};
@@ -14,7 +14,7 @@ use wh_text_catalogue::WrittenView;
 fn is_base_name(names: &Names, views: &[WrittenView], word: &[u8]) -> bool
     ensures { result ≡ is_base_name names.now (map shown_view views.now) word.now }
 {
-    let Some(number) = names.number(word) else {
+    let Some(number) = names.position(word) else {
         return false;
     };
     match views.get(number) {
@@ -48,7 +48,8 @@ fn first_stray<'b, 'a>(
         .find(|part| is_stray(names, views, &part.heading))
 }
 
-/// Looks for the first part whose rows are of no base view. Where there is none, no memory is taken.
+/// Tests that all parts of rows are of base views.
+/// Fails with the fault of the first part whose rows are of no base view. Where there is none, no memory is taken.
 pub fn only_base_parts(
     alloc: Global,
     bundle: &Bundle<'_>,

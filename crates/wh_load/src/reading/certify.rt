@@ -1,4 +1,4 @@
-//! What `certify` reads: views, their sizes and a plan.
+//! Reads what `certify` works on: views, their sizes and a plan.
 
 ghost use Rattle.std.specs.Prelude.{◌≡◌, ◌⊎◌, Ok, Err, IfOk, IfErr};
 ghost use Rattle.wh_text_lines.specs.PlanText.{plan_of};
@@ -54,9 +54,9 @@ fn claim_in(alloc: Global, texts: &ClaimTexts<'_>) -> Result<CertifyInput, LoadF
     Ok(CertifyInput { measured, plan })
 }
 
-/// Reads what a bundle has to be certified: its views, their sizes and its plan. Nights are not looked at. The fault is the
-/// first one: of the headings, from the top; the catalogue, the sizes or the plan that are missing; of the catalogue's
-/// text; of the sizes'; of the plan's. Memory may come at any point.
+/// Reads what a bundle has to be certified: its views, their sizes and its plan. Nights are not looked at.
+/// Fails with the first fault: of the headings, from the top; the catalogue, the sizes or the plan that are missing. Then come the faults
+/// of the catalogue's text, of the sizes', and of the plan's. Memory may come at any point.
 pub fn read_for_certify(alloc: Global, bytes: &[u8]) -> Result<CertifyInput, LoadFault>
     ensures ok { IfOk result (λ c. claim_of bytes.now ≡ Ok (shown_claim c)) }
     ensures err { IfErr result (λ f. (f ≡ LoadFault.Memory) ⊎ (claim_of bytes.now ≡ Err f)) }

@@ -1,4 +1,4 @@
-//! What `check` reads: views, their sizes and a strategy.
+//! Reads what `check` works on: views, their sizes and a strategy.
 
 ghost use Rattle.std.specs.Prelude.{◌≡◌, ◌⊎◌, Ok, Err, IfOk, IfErr};
 ghost use Rattle.wh_text_lines.specs.StrategyText.{strategy_of};
@@ -59,9 +59,9 @@ fn inputs_in(alloc: Global, texts: &CheckTexts<'_>) -> Result<CheckInput, LoadFa
     Ok(CheckInput { measured, strategy })
 }
 
-/// Reads what a bundle of one night has to be checked: its views, their sizes and its strategy. The fault is the first
-/// one: of the headings, from the top, a further night among them; the catalogue, the sizes or the strategy that are
-/// missing; of the catalogue's text; of the strategy's; of the sizes'. Memory may come at any point.
+/// Reads what a bundle of one night has to be checked: its views, their sizes and its strategy.
+/// Fails with the first fault: of the headings, from the top, a further night among them; the catalogue, the sizes or the strategy that are
+/// missing. Then come the faults of the catalogue's text, of the strategy's, and of the sizes'. Memory may come at any point.
 pub fn read_for_check(alloc: Global, bytes: &[u8]) -> Result<CheckInput, LoadFault>
     ensures ok { IfOk result (λ i. inputs_of bytes.now ≡ Ok (shown_check i)) }
     ensures err { IfErr result (λ f. (f ≡ LoadFault.Memory) ⊎ (inputs_of bytes.now ≡ Err f)) }

@@ -1,24 +1,24 @@
-//! Which rows of base views are read, and where they stand.
+//! Finds the rows of base views that are read, tables or changes, in the parts of a bundle.
 
 ghost use Rattle.std.specs.Prelude.{◌≡◌, option_copied};
 ghost use Rattle.wh_text_catalogue.specs.Definitions.{shown_view};
 ghost use Rattle.wh_load.specs.Inner.ReadingRows.{content_of, part_found, shown_rows};
 
-use wh_text_bundle::{Bundle, Heading, Part, Piece};
+use wh_text_bundle::{Bundle, Heading, InputSlice, Part};
 use wh_text_catalogue::WrittenView;
 use wh_text_tables::Content;
 
-/// Rows of base views.
+/// The rows of base views that are read: tables or changes.
 #[derive(Clone, Copy)]
 pub enum Rows {
-    /// Their tables.
+    /// The tables of base views.
     Tables,
-    /// Their changes in a night, which counts from 0.
+    /// The changes of base views in a night, which counts from 0.
     Changes(usize),
 }
 
 impl Rows {
-    /// What a part of such rows tells.
+    /// Returns what a part of these rows tells.
     pub fn content(self) -> Content
         ensures { result ≡ content_of (shown_rows self) }
     {
@@ -29,7 +29,7 @@ impl Rows {
     }
 }
 
-/// The part that has these rows of the view with this name; a derived view has none.
+/// Returns the part that has these rows of the view with this name; `None` where there is none, as of a derived view.
 pub fn part_of<'b, 'a>(
     bundle: &'b Bundle<'a>,
     rows: Rows,
@@ -42,7 +42,7 @@ pub fn part_of<'b, 'a>(
         return None;
     }
     match rows {
-        Rows::Tables => bundle.find(&Heading::Data(Piece::new(name)), 0),
-        Rows::Changes(night) => bundle.find(&Heading::Changes(Piece::new(name)), night),
+        Rows::Tables => bundle.find(&Heading::Data(InputSlice::new(name)), 0),
+        Rows::Changes(night) => bundle.find(&Heading::Changes(InputSlice::new(name)), night),
     }
 }

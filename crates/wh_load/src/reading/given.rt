@@ -1,4 +1,4 @@
-//! The tables that nights begin from, and what is given of one night.
+//! Reads the tables that nights begin from, and what is given of one night.
 
 ghost use Rattle.std.specs.Prelude.{◌≡◌, ◌⊎◌, map, Ok, Err, IfOk, IfErr};
 ghost use Rattle.wh_text_catalogue.specs.Definitions.{shown_view};
@@ -16,7 +16,9 @@ use wh_text_bundle::Bundle;
 use wh_text_lines::read_strategy;
 use wh_threads::ThreadBudget;
 
-/// The tables of these views, where all rows are of base views.
+/// Reads the tables of these views.
+/// Fails with the fault of the first part whose rows are of no base view, and then with the tables' first fault, view by view. Memory may
+/// come at any point.
 pub fn tables_of<R: Threads + Sync>(
     budget: &ThreadBudget<'_, R>,
     bundle: &Bundle<'_>,
@@ -32,7 +34,8 @@ pub fn tables_of<R: Threads + Sync>(
     Ok(tables)
 }
 
-/// What is given of the night of this number, which counts from 0: its changes and the strategy that the text says.
+/// Reads what is given of the night of this number, which counts from 0: its changes, and the strategy that the text says.
+/// Fails with the first fault of the changes, view by view, and then with the strategy's. Memory may come at any point.
 pub fn given_of<R: Threads + Sync>(
     budget: &ThreadBudget<'_, R>,
     bundle: &Bundle<'_>,

@@ -1,4 +1,4 @@
-//! What commands work on, as it was read.
+//! Holds what commands work on, as it was read.
 
 ghost use Rattle.std.specs.Prelude.{◌≡◌, length};
 
@@ -12,9 +12,9 @@ use wh_text_lines::{Plan, Schedule};
 /// Views and their sizes, for which a strategy is planned.
 #[derive(Drop)]
 pub struct MeasuredViews {
-    /// The views.
+    /// The shape of the views.
     pub shape: Shape,
-    /// Their sizes, in the order of the views.
+    /// The sizes, in the order of the views.
     pub sizes: Sizes,
     pub ghost sized: { length sizes ≡ length shape.children },
 }
@@ -37,7 +37,7 @@ pub struct CertifyInput {
     pub plan: Plan,
 }
 
-/// What nights begin from, over the views of a shape.
+/// The views, tables and texts that nights begin from.
 #[derive(Drop)]
 pub struct Opening {
     /// The views, in the order of their numbers.
@@ -48,7 +48,7 @@ pub struct Opening {
     pub tables: Vec<Bag>,
 }
 
-/// What is given of one night.
+/// The changes and the strategy of one night.
 #[derive(Drop)]
 pub struct GivenNight {
     /// The changes of each view: of a base view as they were read, of a derived view none.
@@ -57,25 +57,25 @@ pub struct GivenNight {
     pub strategy: Strategy,
 }
 
-/// One night: what it begins from and what is given of it.
+/// One night: what it begins from, and what is given of it.
 #[derive(Drop)]
 pub struct NightInput {
-    /// The views.
+    /// The shape of the views.
     pub shape: Shape,
-    /// What the night begins from.
+    /// The views, tables and texts that the night begins from.
     pub opening: Opening,
-    /// What is given of it.
+    /// The night's changes and strategy.
     pub given: GivenNight,
 }
 
 /// Nights one after another, and the events in which they are carried out.
 #[derive(Drop)]
 pub struct ReplayInput {
-    /// The views.
+    /// The shape of the views.
     pub shape: Shape,
-    /// What the first night begins from.
+    /// The views, tables and texts that the first night begins from.
     pub opening: Opening,
-    /// What is given of each night, in order.
+    /// The changes and the strategy of each night, in order.
     pub nights: Vec<GivenNight>,
     /// The machine's size and the events.
     pub schedule: Schedule,

@@ -1,4 +1,4 @@
-//! What `night` reads: views, their definitions and tables, and the changes and the strategy of a night.
+//! Reads what `night` works on: views, their definitions and tables, and the changes and the strategy of a night.
 
 ghost use Rattle.std.specs.Prelude.{◌≡◌, ◌⊎◌, length, map, Ok, Err, IfOk, IfErr};
 ghost use Rattle.wh_text_catalogue.specs.Definitions.{shown_view};
@@ -101,9 +101,10 @@ fn night_in<R: Threads + Sync>(
     Ok(night)
 }
 
-/// Reads what a bundle of one night has to be carried out. The fault is the first one: of the headings, from the top, a
-/// further night among them; the catalogue or the strategy that are missing; of the catalogue's text; rows of no base view;
-/// of the tables, view by view; of the changes; of the strategy's text. Memory may come at any point.
+/// Reads what a bundle of one night has to be carried out.
+/// Fails with the first fault: of the headings, from the top, a further night among them; the catalogue or the strategy that are missing;
+/// of the catalogue's text. Then come rows of no base view, and the faults of the tables, view by view, of the changes, and of the
+/// strategy's text. Memory may come at any point.
 ///
 /// What is read makes a catalogue over the shape, and there are a table and changes of each view, of its columns.
 pub fn read_for_night<R: Threads + Sync>(

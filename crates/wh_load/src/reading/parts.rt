@@ -1,4 +1,4 @@
-//! The parts of a bundle, and their texts.
+//! Finds the parts of a bundle, and their texts.
 
 ghost use Rattle.std.specs.Prelude.{◌≡◌, ◌⊎◌, Ok, Err, IfOk, IfErr};
 ghost use Rattle.std.specs.Cow.{cow_slice_items};
@@ -9,7 +9,8 @@ use std::borrow::CowSlice;
 use wh_text::{LoadFault, Word};
 use wh_text_bundle::{Bundle, Heading, Nights, PartFault, parts};
 
-/// The parts of a bundle of which these nights are read.
+/// Reads the parts of a bundle, with these nights.
+/// Fails with the bundle's first fault from the top. Memory may come at any point.
 pub fn bundle_of<'a>(
     alloc: Global,
     bytes: &'a [u8],
@@ -24,8 +25,8 @@ pub fn bundle_of<'a>(
     })
 }
 
-/// The text of the part with this heading, in this night where it may stand in each. A missing part is named by the heading's
-/// first word.
+/// Returns the text of the part with this heading, in this night where it may stand in each.
+/// Fails with a fault that names a missing part by the heading's first word. Memory may come at any point.
 pub fn text_of<'a>(
     alloc: Global,
     bundle: &Bundle<'a>,

@@ -1,4 +1,4 @@
-//! What `plan` reads: views and their sizes.
+//! Reads what `plan` works on: views and their sizes.
 
 ghost use Rattle.std.specs.Prelude.{◌≡◌, ◌⊎◌, Ok, Err, IfOk, IfErr};
 ghost use Rattle.wh_load.specs.ReadingPlan.{measured_in, measured_of, measured_texts_in, measured_texts_of};
@@ -14,7 +14,7 @@ use wh_text_bundle::{Bundle, Heading, Nights};
 use wh_text_catalogue::read_shape;
 use wh_text_tables::read_sizes;
 
-/// The texts of the views and their sizes, or the first that is missing.
+/// Returns the texts of the views and their sizes, or the first that is missing.
 pub(super) fn measured_texts_in<'a>(
     alloc: Global,
     bundle: &Bundle<'a>,
@@ -27,7 +27,7 @@ pub(super) fn measured_texts_in<'a>(
     Ok(MeasuredTexts { catalogue, sizes })
 }
 
-/// What these texts say, or their first fault.
+/// Returns what these texts say, or their first fault.
 pub(super) fn measured_in(
     alloc: Global,
     texts: &MeasuredTexts<'_>,
@@ -49,9 +49,9 @@ fn read_texts<'a>(alloc: Global, bytes: &'a [u8]) -> Result<MeasuredTexts<'a>, L
     measured_texts_in(alloc, &bundle)
 }
 
-/// Reads what a bundle has to be planned for: its views and their sizes. Nights are not looked at. The fault is the first
-/// one: of the headings, from the top; the catalogue or the sizes that are missing; of the catalogue's text; of the sizes'.
-/// Memory may come at any point.
+/// Reads what a bundle has to be planned for: its views and their sizes. Nights are not looked at.
+/// Fails with the first fault: of the headings, from the top; the catalogue or the sizes that are missing; of the catalogue's text; of the
+/// sizes'. Memory may come at any point.
 pub fn read_for_plan(alloc: Global, bytes: &[u8]) -> Result<MeasuredViews, LoadFault>
     ensures ok { IfOk result (λ m. measured_of bytes.now ≡ Ok (shown_measured m)) }
     ensures err { IfErr result (λ f. (f ≡ LoadFault.Memory) ⊎ (measured_of bytes.now ≡ Err f)) }

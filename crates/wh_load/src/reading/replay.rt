@@ -1,4 +1,4 @@
-//! What `replay` reads: views, their definitions and tables, the changes and the strategy of each night, and a schedule.
+//! Reads what `replay` works on: views, their definitions and tables, the changes and the strategy of each night, and a schedule.
 
 ghost use Rattle.std.specs.Cow.{cow_slice_items};
 ghost use Rattle.std.specs.Prelude.{◌≡◌, ◌⊎◌, [], length, map, Ok, Err, IfOk, IfErr};
@@ -159,10 +159,11 @@ fn replay_in<R: Threads + Sync>(
     replay_over(budget, bundle, shape, views, texts, &replayed)
 }
 
-/// Reads what a bundle of any nights has to be replayed. The fault is the first one: of the headings, from the top, a line that
-/// is not blank in an `@night` among them; the catalogue, a night's strategy or the schedule that are missing, in this order; of
-/// the catalogue's text; rows of no base view; of the tables, view by view; of each night in order, its changes, then its
-/// strategy's text; of the schedule's text. Memory may come at any point.
+/// Reads what a bundle of any nights has to be replayed.
+/// Fails with the first fault: of the headings, from the top, a line that is not blank in an `@night` among them. Then come the catalogue,
+/// a night's strategy or the schedule that are missing, in this order, and the faults of the catalogue's text. Then come rows of no base
+/// view, and the faults of the tables, view by view; of each night in order, its changes before its strategy; of the schedule. Memory may
+/// come at any point.
 ///
 /// What is read makes a catalogue over the shape, and there are a table and, in each night, changes of each view, of its columns.
 pub fn read_for_replay<R: Threads + Sync>(

@@ -1,4 +1,4 @@
-//! The tables and the changes of base views.
+//! Reads the tables and the changes of base views.
 
 ghost use Rattle.std.specs.Prelude.{◌≡◌, ◌≢◌, ◌⊎◌, [], map, option_copied, Ok, Err, IfOk, IfErr, IfSome, OnErr};
 ghost use Rattle.wh_text_bundle.specs.Text.{text_of};
@@ -35,7 +35,7 @@ fn read_anew<R: Threads + Sync>(
     }
 }
 
-/// The same, where it may have been read ahead.
+/// Reads a part of rows, of which some may have been read ahead by another thread.
 fn read_begun<R: Threads + Sync>(
     budget: &ThreadBudget<'_, R>,
     rows: Rows,
@@ -114,7 +114,8 @@ fn rows_of_views<R: Threads + Sync>(
     Ok(all)
 }
 
-/// The tables of these views, in the order of the views. Without views no memory is taken.
+/// Reads the tables of these views, in their order.
+/// Fails with the first fault, view by view. Memory may come at any point, but not without views.
 pub fn tables_in<R: Threads + Sync>(
     budget: &ThreadBudget<'_, R>,
     bundle: &Bundle<'_>,
@@ -128,7 +129,8 @@ pub fn tables_in<R: Threads + Sync>(
     rows_of_views(budget, bundle, Rows::Tables, known, texts)
 }
 
-/// The changes of these views in a night, which counts from 0, in the order of the views. Without views no memory is taken.
+/// Reads the changes of these views in a night, which counts from 0, in the order of the views.
+/// Fails with the first fault, view by view. Memory may come at any point, but not without views.
 pub fn changes_in<R: Threads + Sync>(
     budget: &ThreadBudget<'_, R>,
     bundle: &Bundle<'_>,

@@ -1,4 +1,4 @@
-//! The texts of the parts that commands read, which the bundle lends where it can.
+//! Holds the texts of the parts that commands read, which the bundle lends where it can.
 
 use std::borrow::CowSlice;
 
@@ -9,14 +9,14 @@ pub struct MeasuredTexts<'a> {
     pub sizes: CowSlice<'a, u8>,
 }
 
-/// Those and that of a strategy.
+/// The texts of views, their sizes and a strategy.
 #[derive(Drop)]
 pub struct CheckTexts<'a> {
     pub measured: MeasuredTexts<'a>,
     pub strategy: CowSlice<'a, u8>,
 }
 
-/// Those of views and sizes and that of a plan.
+/// The texts of views, their sizes and a plan.
 #[derive(Drop)]
 pub struct ClaimTexts<'a> {
     pub measured: MeasuredTexts<'a>,

@@ -1,11 +1,11 @@
-//! The views that are read for.
+//! Holds the views that rows and strategies are read for.
 
 ghost use Rattle.std.specs.Prelude.{◌≡◌, length};
 
 use wh_text::Names;
 use wh_text_catalogue::WrittenView;
 
-/// Views that a catalogue says, by number and by name, whose rows and strategies are to be read.
+/// The views of a catalogue, by number and by name, whose rows and strategies are to be read.
 #[derive(Drop)]
 pub struct KnownViews<'a> {
     pub names: &'a Names,

@@ -31,7 +31,7 @@ use Rattle.wh_night.specs.Tonight.{IsRefusedThere, goes_out, made_by, newest_in,
 use Rattle.wh_night.specs.Refusals.{IsFirstStageFault}
 use Rattle.wh_night.specs.Causes.{cause_of}
 use Rattle.wh_night.specs.declared.left.NightFault.{NightFault}
-use Rattle.wh_night.specs.declared.left.Left.TheVariants.{Untouched}
+use Rattle.wh_night.specs.declared.left.Aftermath.TheVariants.{Untouched}
 
 -- what a night is made of, beside its catalogue and the rows of a page: its strategy, the tables and changes, and what was published before
 -- it, if it is published

@@ -1,4 +1,4 @@
-//! Bytes cut into parts.
+//! Cuts bytes into parts, each from a line that begins with one `@`.
 ghost use Rattle.std.specs.Prelude.{◌≡◌, ◌+◌, ◌<◌, ◌≤◌, [], ◌∷◌, length, take, drop};
 ghost use Rattle.wh_text_bundle.specs.Cut.{cut};
 ghost use Rattle.wh_text_bundle.specs.RawPart.{shown};
@@ -15,7 +15,7 @@ pub struct LentPart<'a> {
     pub body: &'a [u8],
 }
 
-/// The length of the bytes above the first part.
+/// Returns the length of the bytes above the first part.
 pub fn preface_len(text: &[u8]) -> usize
     ensures within { result ≤ length text.now }
     ensures preface { (cut text.now).preface ≡ take result text.now }
@@ -32,7 +32,7 @@ pub fn preface_len(text: &[u8]) -> usize
     at
 }
 
-/// The first part of a text that begins with one, and what stands below it.
+/// Returns the first part of a text that begins with one, and what stands below it.
 pub fn first_part(text: &[u8]) -> (LentPart<'_>, &[u8])
     requires some { 0 < length text.now }
     requires begins { (cut text.now).preface ≡ [] }

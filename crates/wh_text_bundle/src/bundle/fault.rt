@@ -1,4 +1,4 @@
-//! Why a bundle is not read.
+//! Why a bundle is not read, and which nights are asked for.
 ghost use Rattle.std.specs.Prelude.{◌≡◌};
 ghost use Rattle.wh_text_bundle.specs.PartFault.{number_of_part_fault};
 ghost use Rattle.wh_text_bundle.specs.declared.bundle.fault.PartFault.TheVariants.{Memory};
@@ -20,14 +20,15 @@ pub enum Nights {
 /// Why a bundle is not read: the first fault from the top of its text.
 #[derive(Debug, Drop)]
 pub enum PartFault {
-    /// A part is unknown, repeated or misplaced: the first word of its heading, or `text` where it has none and where a line above the first part is not blank.
+    /// A part is unknown, repeated or misplaced: the first word of its heading. It is `text` where the heading has none, and where a line
+    /// above the first part is not blank.
     Part(Word),
     /// The list of parts or the word could not be stored.
     Memory,
 }
 
 impl PartFault {
-    /// The fault's number among the faults of an input.
+    /// Returns the fault's number among the faults of an input.
     pub fn number(&self) -> u8
         ensures { result ≡ number_of_part_fault self.now }
     {

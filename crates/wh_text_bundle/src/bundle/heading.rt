@@ -1,5 +1,5 @@
-//! What the line that opens a part says.
-use super::piece::Piece;
+//! What the line that opens a part says: what the part is, and how often it may stand.
+use super::piece::InputSlice;
 use super::spelling::{name_after, single_heading};
 
 /// The words of headings that go on with a name.
@@ -34,16 +34,16 @@ pub enum Heading<'a> {
     /// The end of the night above, and the start of the next.
     Night,
     /// The rows of the base view of this name, as CSV.
-    Data(Piece<'a>),
+    Data(InputSlice<'a>),
     /// The changes of the base view of this name in a night, as CSV.
-    Changes(Piece<'a>),
+    Changes(InputSlice<'a>),
 }
 
 impl<'a> Heading<'a> {
     ghost use Rattle.std.specs.Prelude.{◌≡◌};
     ghost use Rattle.wh_text_bundle.specs.Heading.{heading_of, is_csv, is_night, same_heading, scope_of, word_of};
 
-    /// The heading that a text spells, or `None`.
+    /// Returns the heading that a text spells, or `None`.
     pub fn of(text: &'a [u8]) -> Option<Heading<'a>>
         ensures { result ≡ heading_of text.now }
     {
@@ -51,13 +51,13 @@ impl<'a> Heading<'a> {
             return Some(heading);
         }
         if let Some(name) = name_after(DATA, text) {
-            return Some(Heading::Data(Piece::new(name)));
+            return Some(Heading::Data(InputSlice::new(name)));
         }
         let name = name_after(CHANGES, text)?;
-        Some(Heading::Changes(Piece::new(name)))
+        Some(Heading::Changes(InputSlice::new(name)))
     }
 
-    /// The word that it begins with.
+    /// Returns the word that the heading begins with.
     pub fn word(&self) -> &'static [u8]
         ensures { result.now ≡ word_of self.now }
     {
@@ -73,7 +73,7 @@ impl<'a> Heading<'a> {
         }
     }
 
-    /// How often it may stand.
+    /// Returns how often the heading may stand.
     pub fn scope(&self) -> Scope
         ensures { result ≡ scope_of self.now }
     {
@@ -88,7 +88,7 @@ impl<'a> Heading<'a> {
         }
     }
 
-    /// Whether the other is the same, its name included.
+    /// Returns whether the other heading is the same, its name included.
     pub fn is_same(&self, other: &Heading<'_>) -> bool
         ensures { result ≡ same_heading self.now other.now }
     {
@@ -110,14 +110,14 @@ impl<'a> Heading<'a> {
         }
     }
 
-    /// Whether it opens a night.
+    /// Returns whether the heading opens a night.
     pub fn is_night(&self) -> bool
         ensures { result ≡ is_night self.now }
     {
         matches!(self, Heading::Night)
     }
 
-    /// Whether the part is read as CSV, which keeps its CRs.
+    /// Returns whether the part is read as CSV, which keeps its CRs.
     pub fn is_csv(&self) -> bool
         ensures { result ≡ is_csv self.now }
     {

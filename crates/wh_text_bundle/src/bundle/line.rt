@@ -7,7 +7,7 @@ ghost use Rattle.wh_text_bundle.specs.PartLine.{has_cr, without_end, is_blank_li
 use memchr::memchr;
 use wh_text::line::{first_line, is_blank, without_lf};
 
-/// Whether the line ends in CR LF.
+/// Returns whether the line ends in CR LF.
 pub fn has_cr(line: &[u8]) -> bool
     ensures bound { IsTrue result → 2 ≤ length line.now }
     ensures value { result ≡ has_cr line.now }
@@ -15,7 +15,7 @@ pub fn has_cr(line: &[u8]) -> bool
     line.ends_with(b"\r\n")
 }
 
-/// The line without its end: the LF, and a CR directly before it.
+/// Returns the line without its end: the LF, and a CR directly before it.
 pub fn without_end(line: &[u8]) -> &[u8]
     ensures { result.now ≡ without_end line.now }
 {
@@ -26,7 +26,7 @@ pub fn without_end(line: &[u8]) -> &[u8]
     }
 }
 
-/// Whether the line has blanks alone before its end.
+/// Returns whether the line has blanks alone before its end.
 fn is_blank_line(line: &[u8]) -> bool
     ensures { result ≡ is_blank_line line.now }
 {
@@ -34,7 +34,7 @@ fn is_blank_line(line: &[u8]) -> bool
     content.iter().all(|byte| is_blank(*byte))
 }
 
-/// Whether each line has blanks alone.
+/// Returns whether each line has blanks alone.
 pub fn is_blank_text(text: &[u8]) -> bool
     ensures { result ≡ is_blank_text text.now }
 {
@@ -49,21 +49,21 @@ pub fn is_blank_text(text: &[u8]) -> bool
     true
 }
 
-/// Whether the line begins with `@@`.
+/// Returns whether the line begins with `
 pub fn is_escaped(line: &[u8]) -> bool
     ensures { result ≡ is_escaped line.now }
 {
     line.starts_with(b"@@")
 }
 
-/// Whether the line begins with one `@`.
+/// Returns whether the line begins with one `@`.
 pub fn opens_part(line: &[u8]) -> bool
     ensures { result ≡ opens_part line.now }
 {
     line.starts_with(b"@") && !is_escaped(line)
 }
 
-/// Whether a line begins at the place.
+/// Returns whether a line begins at the place.
 fn begins_line(text: &[u8], place: usize) -> bool
     requires { place ≤ length text.now }
     ensures { result ≡ (place == 0 || slice_index text.now (place - 1) == 10) }
@@ -71,7 +71,7 @@ fn begins_line(text: &[u8], place: usize) -> bool
     place == 0 || text[place - 1] == b'\n'
 }
 
-/// The length of the lines above the first that begins with an `@`. Most bytes have none, so it is they that are looked for.
+/// Returns the length of the lines above the first that begins with an `@`. Most bytes have none, so it is they that are looked for.
 pub fn plain_len(text: &[u8]) -> usize
     ensures within { result ≤ length text.now }
     ensures lines { whole_lines text.now ≡ whole_lines (take result text.now) ++ whole_lines (drop result text.now) }

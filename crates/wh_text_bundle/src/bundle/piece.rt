@@ -1,15 +1,15 @@
-//! A stretch of the input.
+//! A stretch of the input, so that contracts see its bytes and not where they lie.
 ghost use Rattle.std.specs.Prelude.{◌≡◌};
 
 use std::marker::Model;
 
 /// A stretch of the input's bytes.
 #[derive(Debug, Drop)]
-pub struct Piece<'a> {
+pub struct InputSlice<'a> {
     bytes: &'a [u8],
 }
 
-impl<'a> Model for Piece<'a> {
+impl<'a> Model for InputSlice<'a> {
     ghost use Rattle.std.specs.Prelude.{List, ℕ};
 
     ghost Value = { List ℕ };
@@ -17,15 +17,15 @@ impl<'a> Model for Piece<'a> {
     ghost view = { λ p. p.bytes.now };
 }
 
-impl<'a> Piece<'a> {
-    /// The piece that has these bytes.
+impl<'a> InputSlice<'a> {
+    /// Takes these bytes as a stretch.
     pub fn new(bytes: &'a [u8]) -> Self
         ensures { result ≡ bytes.now }
     {
-        Piece { bytes }
+        InputSlice { bytes }
     }
 
-    /// The bytes.
+    /// Returns the bytes.
     pub fn as_slice(&self) -> &'a [u8]
         ensures { result.now ≡ self.now }
     {

@@ -1,4 +1,4 @@
-//! The parts in the bytes of a bundle.
+//! Reads the parts in the bytes of a bundle, up to the first that is at fault.
 ghost use Rattle.std.specs.Prelude.{◌≡◌, ◌≢◌, Some, None, [], ◌∷◌, ◌++◌, List, IfOk, IfErr, OnOk, OnErr, OnSome, IfSome, MatchOption, true, false};
 ghost use Rattle.wh_text_bundle.specs.Cut.{RawPart, cut};
 ghost use Rattle.wh_text_bundle.specs.Heading.{fault_word, heading_of, heading_text};
@@ -12,13 +12,13 @@ use super::fault::{Nights, PartFault};
 use super::heading::Heading;
 use super::line::is_blank_text;
 use super::part::Part;
-use super::piece::Piece;
+use super::piece::InputSlice;
 use super::seen::Seen;
 use super::spelling::{fault_word, heading_text};
 use std::alloc::{AllocError, Global};
 use wh_text::Word;
 
-/// Whether the part is a night that is not read so.
+/// Returns whether the part is a night that is not read so.
 fn is_bad_night(nights: Nights, heading: &Heading, body: &[u8]) -> bool
     ensures { result ≡ is_bad_night nights heading.now body.now }
 {
@@ -29,7 +29,7 @@ fn is_bad_night(nights: Nights, heading: &Heading, body: &[u8]) -> bool
     }
 }
 
-/// The heading of a part that is not at fault below those seen, which is then seen too.
+/// Returns the heading of a part that is not at fault below those seen, which is then seen too.
 fn sound_heading<'a>(
     seen: &mut Seen<'a>,
     raw: &LentPart<'a>,
@@ -55,7 +55,7 @@ fn sound_heading<'a>(
     Ok(Some(heading))
 }
 
-/// The fault of a heading.
+/// Makes the fault of a heading.
 fn fault_at(alloc: Global, opening: &[u8]) -> PartFault
     ensures { Names result (Some (fault_word (heading_text opening.now))) }
 {
@@ -65,7 +65,7 @@ fn fault_at(alloc: Global, opening: &[u8]) -> PartFault
     }
 }
 
-/// The parts of a text that begins with one, or the first that is at fault.
+/// Returns the parts of a text that begins with one, or the first that is at fault.
 pub fn read_parts<'a>(
     alloc: Global,
     text: &'a [u8],
@@ -92,7 +92,7 @@ pub fn read_parts<'a>(
         parts.push(Part {
             heading,
             night,
-            body: Piece::new(raw.body),
+            body: InputSlice::new(raw.body),
         })?;
         rest = below;
     }

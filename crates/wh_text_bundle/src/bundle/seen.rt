@@ -1,4 +1,4 @@
-//! The headings above a place.
+//! The headings above a place, by which a repeated one is found.
 use super::heading::{Heading, Scope};
 use std::alloc::{AllocError, Global};
 use std::collections::BTreeSet;
@@ -19,7 +19,7 @@ impl<'a> Seen<'a> {
     ghost use Rattle.wh_text_bundle.specs.Bundle.{is_repeated, text_of_heading};
     ghost use Rattle.wh_text_bundle.specs.Seen.{Recalls};
 
-    /// Nothing stands above.
+    /// Makes the sets at the top, where nothing stands above.
     pub fn new(alloc: Global) -> Self
         ensures { Recalls result [] }
     {
@@ -29,7 +29,7 @@ impl<'a> Seen<'a> {
         }
     }
 
-    /// Notes the heading of a part, and answers whether it is no repeat of one above.
+    /// Notes the heading of a part, and returns whether it is no repeat of one above.
     pub fn note(&mut self, heading: &Heading<'a>, text: &'a [u8]) -> Result<bool, AllocError>
         requires { heading_of text.now ≡ Some heading.now }
         ensures fresh { (above : List RawPart) → Recalls self.old above

@@ -1,4 +1,4 @@
-//! How a heading is spelled.
+//! How a heading is spelled, and how a fault names one that is spelled wrongly.
 ghost use Rattle.std.specs.Prelude.{◌≡◌, ◌≤◌, length, option_copied, Some, None, if◌then◌else◌};
 ghost use Rattle.std.specs.List.{prefix_len, position_or_len};
 ghost use Rattle.std.specs.Str.{bytes_eq};
@@ -9,7 +9,7 @@ use super::heading::Heading;
 use super::line::without_end;
 use wh_text::line::is_blank;
 
-/// The heading, where the text is its word.
+/// Returns the heading, where the text is its word.
 fn if_word<'a>(heading: Heading<'a>, text: &[u8]) -> Option<Heading<'a>>
     ensures { result ≡ (if bytes_eq text.now (word_of heading.entry) then Some heading.entry else None) }
 {
@@ -20,7 +20,7 @@ fn if_word<'a>(heading: Heading<'a>, text: &[u8]) -> Option<Heading<'a>>
     }
 }
 
-/// The heading that is a single word, where the text is one.
+/// Returns the heading that is a single word, where the text is one.
 #[tactic(auto, using(crate::proofs::Fronts::or_cond))]
 pub fn single_heading<'a>(text: &[u8]) -> Option<Heading<'a>>
     ensures { result ≡ single_heading text.now }
@@ -33,7 +33,7 @@ pub fn single_heading<'a>(text: &[u8]) -> Option<Heading<'a>>
         .or(if_word(Heading::Night, text))
 }
 
-/// What stands after a word and a blank, where there is anything.
+/// Returns what stands after a word and a blank, where there is anything.
 pub fn name_after<'a>(word: &[u8], text: &'a [u8]) -> Option<&'a [u8]>
     ensures { option_copied result ≡ name_after word.now text.now }
 {
@@ -45,7 +45,7 @@ pub fn name_after<'a>(word: &[u8], text: &'a [u8]) -> Option<&'a [u8]>
     }
 }
 
-/// The text without the blanks at its end.
+/// Returns the text without the blanks at its end.
 fn without_blank_end(text: &[u8]) -> &[u8]
     ensures { result.now ≡ without_blank_end text.now }
 {
@@ -56,7 +56,7 @@ fn without_blank_end(text: &[u8]) -> &[u8]
     &text[..end]
 }
 
-/// The text of the heading in the line that opens a part.
+/// Returns the text of the heading in the line that opens a part.
 pub fn heading_text(opening: &[u8]) -> &[u8]
     ensures { result.now ≡ heading_text opening.now }
 {
@@ -69,7 +69,7 @@ pub fn heading_text(opening: &[u8]) -> &[u8]
     without_blank_end(text)
 }
 
-/// How many blanks the text begins with.
+/// Returns how many blanks the text begins with.
 fn blanks_len(text: &[u8]) -> usize
     ensures within { result ≤ length text.now }
     ensures value { result ≡ prefix_len is_blank text.now }
@@ -82,7 +82,7 @@ fn blanks_len(text: &[u8]) -> usize
     text.len()
 }
 
-/// How many bytes stand before the first blank.
+/// Returns how many bytes stand before the first blank.
 fn word_len(text: &[u8]) -> usize
     ensures within { result ≤ length text.now }
     ensures value { result ≡ position_or_len is_blank text.now }
@@ -95,7 +95,7 @@ fn word_len(text: &[u8]) -> usize
     text.len()
 }
 
-/// The first word of the text, which may be empty.
+/// Returns the first word of the text, which may be empty.
 fn first_word(text: &[u8]) -> &[u8]
     ensures { result.now ≡ first_word text.now }
 {
@@ -103,7 +103,7 @@ fn first_word(text: &[u8]) -> &[u8]
     &rest[..word_len(rest)]
 }
 
-/// How a fault names the heading of this text.
+/// Returns how a fault names the heading of this text.
 pub fn fault_word(text: &[u8]) -> &[u8]
     ensures { result.now ≡ fault_word text.now }
 {

@@ -1,4 +1,4 @@
-//! The text that a part's bytes stand for.
+//! The text that a part's bytes stand for, which is most often these bytes.
 ghost use Rattle.std.specs.Prelude.{◌≡◌, ◌+◌, ◌<◌, ◌≤◌, ◌++◌, IsTrue, IfOk, OnOk, IsOkAnd, length, take, drop, false};
 ghost use Rattle.std.specs.Cow.{cow_slice_items, IsBorrowedSlice};
 ghost use Rattle.wh_text_bundle.specs.Text.{body_text, line_text};
@@ -8,7 +8,7 @@ use std::alloc::{AllocError, Global};
 use std::borrow::CowSlice;
 use wh_text::line::first_line;
 
-/// Whether the line stands for itself.
+/// Returns whether the line stands for itself.
 fn is_kept(line: &[u8], csv: bool) -> bool
     ensures kept { IsTrue result → line_text csv line.now ≡ line.now }
     ensures changed { result ≡ false → length (line_text csv line.now) < length line.now }
@@ -16,7 +16,7 @@ fn is_kept(line: &[u8], csv: bool) -> bool
     !is_escaped(line) && (csv || !has_cr(line))
 }
 
-/// In CSV, which may be long, the length of the lines that begin with no `@`.
+/// Returns the length of the lines above the first that begins with an `@`, in CSV alone, which may be long; else 0.
 fn plain_csv_len(body: &[u8], csv: bool) -> usize
     ensures within { result ≤ length body.now }
     ensures text { body_text csv body.now ≡ take result body.now ++ body_text csv (drop result body.now) }
@@ -24,7 +24,7 @@ fn plain_csv_len(body: &[u8], csv: bool) -> usize
     if csv { plain_len(body) } else { 0 }
 }
 
-/// The length of the lines above the first that does not stand for itself.
+/// Returns the length of the lines above the first that does not stand for itself.
 fn kept_len(body: &[u8], csv: bool) -> usize
     ensures within { result ≤ length body.now }
     ensures text { body_text csv body.now ≡ take result body.now ++ body_text csv (drop result body.now) }
@@ -55,7 +55,7 @@ fn push_line(text: &mut Vec<u8>, line: &[u8], csv: bool) -> Result<(), AllocErro
     Ok(())
 }
 
-/// The text of a body, built anew.
+/// Builds the text of a body anew.
 fn written(alloc: Global, body: &[u8], kept: usize, csv: bool) -> Result<Vec<u8>, AllocError>
     requires within { kept ≤ length body.now }
     requires text { body_text csv body.now ≡ take kept body.now ++ body_text csv (drop kept body.now) }
@@ -72,7 +72,7 @@ fn written(alloc: Global, body: &[u8], kept: usize, csv: bool) -> Result<Vec<u8>
     Ok(text)
 }
 
-/// The text of a body, lent where it is the body itself.
+/// Returns the text of a body, lent where it is the body itself.
 pub fn body_text<'a>(
     alloc: Global,
     body: &'a [u8],

@@ -1,4 +1,4 @@
-//! The columns of a base view.
+//! Reads the columns of a base view.
 ghost use Rattle.std.specs.Prelude.{◌≡◌, ◌⊎◌, [], map, option_map, Ok, Err, IfOk, IfErr};
 ghost use Rattle.toml.specs.View.{view};
 ghost use Rattle.wh_text_catalogue.specs.BaseColumns.{base_columns, column_in, columns_in, columns_written, is_few, kind_named, kinded_column};
@@ -69,7 +69,7 @@ fn columns_in(alloc: Global, values: &[Value]) -> Result<Option<Vec<Column>>, Al
     Ok(Some(columns))
 }
 
-/// Whether a view may have so many columns: 1 to 64.
+/// Tells whether a view may have so many columns: 1 to 64.
 pub(crate) fn is_few(count: usize) -> bool
     ensures { result ≡ is_few count }
 {
@@ -93,7 +93,7 @@ fn columns_written(alloc: Global, value: &Value) -> Result<Vec<Column>, LoadFaul
     Ok(columns)
 }
 
-/// The columns of a base view, or its first fault: Key(Columns), then Column.
+/// Returns the columns of a base view, or its first fault: Key(Columns), then Column.
 pub(crate) fn base_columns(alloc: Global, table: &Value) -> Result<Vec<Column>, LoadFault>
     ensures ok { IfOk result (λ columns. base_columns (view table.now) ≡ Ok columns.items) }
     ensures err { IfErr result (λ f. (f ≡ LoadFault.Memory) ⊎ (base_columns (view table.now) ≡ Err f)) }

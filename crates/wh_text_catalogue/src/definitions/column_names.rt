@@ -1,4 +1,4 @@
-//! Names of columns, of which none stands twice.
+//! Collects names of columns, of which none may stand twice.
 ghost use Rattle.std.specs.Prelude.{◌≡◌, ◌⊎◌, [], map, Ok, Err, IfErr, IsOk, OnOk};
 ghost use Rattle.wh_text_catalogue.specs.ColumnNames.{fresh_columns, fresh_name};
 
@@ -6,7 +6,7 @@ use indexmap::IndexSet;
 use std::alloc::Global;
 use wh_text::{Column, LoadFault, Word};
 
-/// The fault of a column that is unknown or repeated, or Memory.
+/// Returns the fault of a column that is unknown or repeated, or Memory.
 pub(crate) fn column_fault(alloc: Global, name: &str) -> LoadFault
     ensures { (result ≡ LoadFault.Memory) ⊎ (result ≡ LoadFault.Column name.now) }
 {
@@ -32,7 +32,7 @@ pub(crate) fn fresh_name<'a>(
     }
 }
 
-/// Whether no name stands twice among the columns, else the fault of the first that does.
+/// Tests that no name stands twice among the columns, or returns the fault of the first that does.
 pub(crate) fn distinct_columns(alloc: Global, columns: &[Column]) -> Result<(), LoadFault>
     ensures ok { OnOk result (IsOk (fresh_columns [] columns.now)) }
     ensures err { IfErr result (λ f. (f ≡ LoadFault.Memory) ⊎ (fresh_columns [] columns.now ≡ Err f)) }

@@ -1,4 +1,4 @@
-//! The form of an expression, level by level.
+//! Tests the form of an expression, level by level.
 ghost use Rattle.std.specs.Prelude.{◌≡◌, ◌==◌, map, option_map};
 ghost use Rattle.toml.specs.View.{table_view, view};
 ghost use Rattle.wh_text_catalogue.specs.ExprForm.{expr_form, is_expr, literal_of, member_count, operation_of, sign_of};
@@ -79,7 +79,7 @@ fn literal_of(members: &Table) -> Option<ExprForm<'_>>
     Some(ExprForm::Literal(text))
 }
 
-/// The first level of the expression, or `None` where it has another form.
+/// Returns the first level of the expression, or `None` where it has another form.
 pub(crate) fn expr_form(value: &Value) -> Option<ExprForm<'_>>
     ensures { option_map seen result ≡ expr_form (view value.now) }
 {
@@ -98,7 +98,7 @@ pub(crate) fn expr_form(value: &Value) -> Option<ExprForm<'_>>
     }
 }
 
-/// Whether the value is an expression of at most so many levels.
+/// Tells whether the value is an expression of at most so many levels.
 pub(crate) fn is_expr(value: &Value, levels: usize) -> bool
     ensures { result ≡ is_expr levels (view value.now) }
 {

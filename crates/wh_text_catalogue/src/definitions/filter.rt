@@ -1,4 +1,4 @@
-//! The predicate that the rows of a derived view meet.
+//! Reads the predicate that the rows of a derived view meet.
 ghost use Rattle.std.specs.Prelude.{◌≡◌, ◌⊎◌, Ok, Err, IfOk, IfErr};
 ghost use Rattle.toml.specs.View.{view};
 ghost use Rattle.wh_text.specs.Inner.Dict.{Grows};
@@ -32,7 +32,7 @@ fn filter_written(
     whole_pred(alloc, header, texts, value)
 }
 
-/// The predicate of a view, or its first fault: Key(Where), then Column, then Kind.
+/// Returns the predicate of a view, or its first fault: Key(Where), then Column, then Kind.
 pub(crate) fn filter_of(
     alloc: Global,
     header: &Header,

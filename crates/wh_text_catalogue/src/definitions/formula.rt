@@ -1,4 +1,4 @@
-//! Whole formulas: their form, then their columns, then their kinds.
+//! Reads whole formulas: their form, then their columns, then their kinds.
 ghost use Rattle.std.specs.Prelude.{◌≡◌, ◌⊎◌, Ok, Err, IfOk, IfErr};
 ghost use Rattle.std.specs.Option.{option_copied};
 ghost use Rattle.toml.specs.View.{view};
@@ -15,7 +15,7 @@ use toml::Value;
 use wh_formula::{MAX_DEPTH, Pred};
 use wh_text::{Dict, LoadFault};
 
-/// Whether the value has the form of an expression.
+/// Tells whether the value has the form of an expression.
 #[tactic(auto, unfolding(crate::specs::Formula::is_whole_expr))]
 pub(crate) fn is_whole_expr(value: &Value) -> bool
     ensures { result ≡ is_whole_expr (view value.now) }
@@ -23,7 +23,7 @@ pub(crate) fn is_whole_expr(value: &Value) -> bool
     is_expr(value, MAX_DEPTH)
 }
 
-/// The first reference of an expression that names no column.
+/// Returns the first reference of an expression that names no column.
 #[tactic(auto, unfolding(crate::specs::Formula::unknown_column))]
 pub(crate) fn unknown_column<'a>(header: &Header, value: &'a Value) -> Option<&'a str>
     ensures { option_copied result ≡ unknown_column header.now.columns (view value.now) }
@@ -31,7 +31,7 @@ pub(crate) fn unknown_column<'a>(header: &Header, value: &'a Value) -> Option<&'
     unknown_in_expr(header, value, MAX_DEPTH)
 }
 
-/// An expression and its kind; its texts get numbers from left to right.
+/// Reads an expression and its kind; its texts get numbers from left to right.
 #[tactic(auto, unfolding(crate::specs::Formula::whole_expr))]
 pub(crate) fn whole_expr(
     alloc: Global,
@@ -46,7 +46,7 @@ pub(crate) fn whole_expr(
     typed_expr(alloc, header, texts, value, MAX_DEPTH)
 }
 
-/// Whether the value has the form of a predicate.
+/// Tells whether the value has the form of a predicate.
 #[tactic(auto, unfolding(crate::specs::Formula::is_whole_pred))]
 pub(crate) fn is_whole_pred(value: &Value) -> bool
     ensures { result ≡ is_whole_pred (view value.now) }
@@ -54,7 +54,7 @@ pub(crate) fn is_whole_pred(value: &Value) -> bool
     is_pred(value, MAX_DEPTH)
 }
 
-/// The first reference of a predicate that names no column.
+/// Returns the first reference of a predicate that names no column.
 #[tactic(auto, unfolding(crate::specs::Formula::unknown_in_test))]
 pub(crate) fn unknown_in_test<'a>(header: &Header, value: &'a Value) -> Option<&'a str>
     ensures { option_copied result ≡ unknown_in_test header.now.columns (view value.now) }
@@ -62,7 +62,7 @@ pub(crate) fn unknown_in_test<'a>(header: &Header, value: &'a Value) -> Option<&
     unknown_in_pred(header, value, MAX_DEPTH)
 }
 
-/// A predicate; its texts get numbers from left to right.
+/// Reads a predicate; its texts get numbers from left to right.
 #[tactic(auto, unfolding(crate::specs::Formula::whole_pred))]
 pub(crate) fn whole_pred(
     alloc: Global,

@@ -1,4 +1,4 @@
-//! The first reference of a formula that names no column.
+//! Finds the first reference of a formula that names no column.
 ghost use Rattle.std.specs.Prelude.{◌≡◌, map};
 ghost use Rattle.std.specs.Option.{option_copied};
 ghost use Rattle.toml.specs.View.{view};
@@ -9,7 +9,7 @@ use super::header::Header;
 use super::pred_form::{PredForm, pred_form};
 use toml::Value;
 
-/// The reference itself, where it names no column.
+/// Returns the reference itself, where it names no column.
 pub(crate) fn unknown<'a>(header: &Header, reference: &'a str) -> Option<&'a str>
     ensures { option_copied result ≡ unknown header.now.columns reference.now }
 {
@@ -20,7 +20,7 @@ pub(crate) fn unknown<'a>(header: &Header, reference: &'a str) -> Option<&'a str
     }
 }
 
-/// The first reference of an expression of so many levels that names no column.
+/// Returns the first reference of an expression of so many levels that names no column.
 pub(crate) fn unknown_in_expr<'a>(
     header: &Header,
     value: &'a Value,
@@ -43,7 +43,7 @@ pub(crate) fn unknown_in_expr<'a>(
     }
 }
 
-/// The first reference of a predicate of so many levels that names no column.
+/// Returns the first reference of a predicate of so many levels that names no column.
 #[cycle(pred_columns)]
 pub(crate) fn unknown_in_pred<'a>(
     header: &Header,

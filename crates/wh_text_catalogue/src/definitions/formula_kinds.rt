@@ -1,4 +1,4 @@
-//! Formulas whose kinds fit, with their texts numbered.
+//! Makes formulas whose kinds fit, and numbers their texts.
 ghost use Rattle.std.specs.Prelude.{◌≡◌, ◌⊎◌, ◌<◌, ◌≤◌, [], All, ◌+◌, map, Ok, Err, IfOk, IfErr};
 ghost use Rattle.toml.specs.View.{view};
 ghost use Rattle.wh_formula.specs.Expr as expr_tree;
@@ -23,7 +23,7 @@ pub(crate) struct TypedExpr {
     pub expr: Expr,
 }
 
-/// Whether the kind is that of whole numbers.
+/// Tells whether the kind is that of whole numbers.
 pub(crate) fn is_int(kind: Kind) -> bool
     ensures { result ≡ is_int kind }
 {
@@ -73,7 +73,7 @@ fn literal(alloc: Global, texts: &mut Dict, text: &str) -> Result<TypedExpr, Loa
     ensures err { IfErr result (λ f. f ≡ LoadFault.Memory) }
     ensures grows { Grows texts.old texts.new }
 {
-    let number = texts.number(alloc, text)?;
+    let number = texts.intern(alloc, text)?;
     Ok(TypedExpr {
         kind: Kind::Text,
         expr: Expr::number(number),
@@ -95,7 +95,7 @@ fn column(alloc: Global, header: &Header, reference: &str) -> Result<TypedExpr, 
     })
 }
 
-/// An expression of at most so many levels, which may be one of texts; its texts get numbers from left to right.
+/// Reads an expression of at most so many levels, which may be one of texts; its texts get numbers from left to right.
 #[cycle(expr_kinds)]
 pub(crate) fn typed_expr(
     alloc: Global,
@@ -213,7 +213,7 @@ fn typed_comparison(
     compared(alloc, header, comparison, left, right)
 }
 
-/// A predicate of at most so many levels; its texts get numbers from left to right.
+/// Reads a predicate of at most so many levels; its texts get numbers from left to right.
 #[cycle(pred_kinds)]
 pub(crate) fn typed_pred(
     alloc: Global,

@@ -1,4 +1,4 @@
-//! The combined row of a derived view.
+//! Finds columns in the combined row of a derived view by their references.
 ghost use Rattle.std.specs.Prelude.{◌≡◌, ◌⊎◌, ◌<◌, length, string_bytes, IfSome};
 ghost use Rattle.wh_text_catalogue.specs.Header.{cell_of, place_of};
 
@@ -9,9 +9,9 @@ use wh_text::{Column, Kind, LoadFault, Word};
 /// A cell of the combined row.
 #[derive(Clone, Copy)]
 pub(crate) struct Cell {
-    /// Where it stands in the row, from 0.
+    /// The cell's place in the row, from 0.
     pub place: usize,
-    /// What it is.
+    /// The kind of the cell's column.
     pub kind: Kind,
 }
 
@@ -49,7 +49,7 @@ fn cell_of(columns: &[Column], reference: &str) -> Option<Cell>
 }
 
 impl Header {
-    /// The combined row of these columns, under the view of this name.
+    /// Returns the combined row of these columns, under the view of this name.
     pub(crate) fn new(view: String, columns: Vec<Column>) -> Header
         ensures view { result.view ≡ string_bytes view }
         ensures columns { result.columns ≡ columns.items }
@@ -57,21 +57,21 @@ impl Header {
         Header { view, columns }
     }
 
-    /// How many cells a combined row has.
+    /// Returns how many cells a combined row has.
     pub(crate) fn width(&self) -> usize
         ensures { result ≡ length self.now.columns }
     {
         self.columns.len()
     }
 
-    /// The cell that a reference names, or `None` where it names none.
+    /// Returns the cell that a reference names, or `None` where it names none.
     pub(crate) fn cell(&self, reference: &str) -> Option<Cell>
         ensures { result ≡ cell_of self.now.columns reference.now }
     {
         cell_of(&self.columns, reference)
     }
 
-    /// The fault of a formula whose kinds do not fit, or Memory.
+    /// Returns the fault of a formula whose kinds do not fit, or Memory.
     pub(crate) fn unfit(&self, alloc: Global) -> LoadFault
         ensures { (result ≡ LoadFault.Memory) ⊎ (result ≡ LoadFault.Kind self.now.view) }
     {

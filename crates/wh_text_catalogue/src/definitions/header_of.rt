@@ -1,4 +1,4 @@
-//! The combined row of a view, of the columns of its children.
+//! Makes the combined row of a view, of the columns of its children.
 ghost use Rattle.std.specs.Prelude.{◌≡◌, ◌++◌, ◌∷◌, ◌<◌, map, flat_map, length, string_bytes, IfOk, OnOk};
 ghost use Rattle.wh_dag.specs.Shape.{children_of};
 ghost use Rattle.wh_text_catalogue.specs.Definitions.{child_columns, columns_of, header_of, qualified, shown_view};
@@ -62,7 +62,7 @@ fn combined_columns(
     Ok(columns)
 }
 
-/// The combined row of the view over its children, which stand among these views.
+/// Returns the combined row of the view over its children, which stand among these views.
 pub(crate) fn header_of(
     alloc: Global,
     shape: &Shape,

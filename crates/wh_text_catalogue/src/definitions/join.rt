@@ -1,4 +1,4 @@
-//! The pairs of columns that are equal in a joined row.
+//! Reads the pairs of columns that are equal in a joined row.
 ghost use Rattle.std.specs.Prelude.{◌≡◌, ◌⊎◌, [], codes, map, option_map, Ok, Err, IfOk, IfErr};
 ghost use Rattle.std.specs.Option.{option_copied};
 ghost use Rattle.toml.specs.Data.{get};
@@ -151,7 +151,7 @@ fn joined(
     Ok(places)
 }
 
-/// The places that are equal in a joined row, or the first fault: Key(Join), then Column, then Kind.
+/// Returns the places that are equal in a joined row, or the first fault: Key(Join), then Column, then Kind.
 pub(crate) fn join_of(
     alloc: Global,
     header: &Header,

@@ -1,4 +1,4 @@
-//! The columns of a derived view.
+//! Reads the columns of a derived view, and what they are made of.
 ghost use Rattle.std.specs.Prelude.{◌≡◌, ◌⊎◌, [], codes, map, Ok, Err, IfOk, IfErr};
 ghost use Rattle.toml.specs.Data.{get};
 ghost use Rattle.toml.specs.View.{view};
@@ -21,16 +21,16 @@ use wh_dag::MAX_COLUMNS;
 use wh_formula::Expr;
 use wh_text::{Column, Dict, Key, Kind, LoadFault};
 
-/// What the columns of a derived view are made of.
+/// The source of a derived view's columns: kept values, or groups with a count and sums.
 #[derive(Debug, Drop)]
 pub enum WrittenOutput {
-    /// A joined view keeps the value of an expression in each column.
+    /// The expressions of a joined view, which keeps the value of one in each column.
     Keep(Vec<Expr>),
-    /// A summary has the cells at these places, by which it groups, then the group's count, then these sums.
+    /// The cells by which a summary groups, behind which stand the group's count and these sums.
     Sums {
-        /// The places in the combined row.
+        /// The places, in the combined row, of the cells by which the summary groups.
         group: Vec<usize>,
-        /// What is added up.
+        /// The expressions that are added up.
         sums: Vec<Expr>,
     },
 }
@@ -38,9 +38,9 @@ pub enum WrittenOutput {
 /// The columns of a derived view, and what they are made of.
 #[derive(Drop)]
 pub(crate) struct Outcome {
-    /// The columns.
+    /// The columns, in their order.
     pub columns: Vec<Column>,
-    /// What they are made of.
+    /// The source of the columns.
     pub output: WrittenOutput,
 }
 
@@ -241,8 +241,8 @@ fn summary_columns_if_grouped(
     }
 }
 
-/// The columns of a derived view, or its first fault, key by key: its form (Key), then Column, then Kind. The keys are
-/// `keep`; where it is missing `group`, `count` and `sum`. One of `keep` and `group` is missing.
+/// Returns the columns of a derived view, or its first fault, key by key: its form (Key), then Column, then Kind. The keys are `keep`;
+/// where it is missing `group`, `count` and `sum`. One of `keep` and `group` is missing.
 pub(crate) fn output_of(
     alloc: Global,
     header: &Header,

@@ -1,4 +1,4 @@
-//! Arrays of pairs of a name and a formula.
+//! Reads arrays of pairs of a name and a formula.
 ghost use Rattle.std.specs.Prelude.{◌≡◌, ◌⊎◌, [], map, option_map, None, Some, Ok, Err, IfOk, IfErr, OnOk};
 ghost use Rattle.std.specs.Option.{option_copied};
 ghost use Rattle.toml.specs.View.{view};
@@ -22,7 +22,7 @@ use wh_text::{Key, LoadFault};
 pub(crate) struct Pair<'a> {
     /// The name, which has the form of a name.
     pub name: &'a str,
-    /// What stands beside it.
+    /// The value that stands beside the name.
     pub value: &'a Value,
 }
 
@@ -60,7 +60,7 @@ fn pairs_in(alloc: Global, values: &[Value]) -> Result<Option<Vec<Pair<'_>>>, Al
     Ok(Some(pairs))
 }
 
-/// The pairs of an array, else the key's fault.
+/// Returns the pairs of an array, else the key's fault.
 pub(crate) fn pairs_written(
     alloc: Global,
     key: Key,
@@ -78,7 +78,7 @@ pub(crate) fn pairs_written(
     }
 }
 
-/// Whether the formula of each pair is an expression.
+/// Tells whether the formula of each pair is an expression.
 pub(crate) fn are_exprs(pairs: &[Pair<'_>]) -> bool
     ensures { result ≡ are_exprs (map seen_pair pairs.now) }
 {
@@ -90,7 +90,7 @@ pub(crate) fn are_exprs(pairs: &[Pair<'_>]) -> bool
     true
 }
 
-/// The text of a reference, or `None` where the value has another form.
+/// Returns the text of a reference, or `None` where the value has another form.
 pub(crate) fn reference_in(value: &Value) -> Option<&str>
     ensures { option_copied result ≡ reference_in (view value.now) }
 {
@@ -98,7 +98,7 @@ pub(crate) fn reference_in(value: &Value) -> Option<&str>
     if is_reference(text) { Some(text) } else { None }
 }
 
-/// Whether the formula of each pair is a reference.
+/// Tells whether the formula of each pair is a reference.
 pub(crate) fn are_references(pairs: &[Pair<'_>]) -> bool
     ensures { result ≡ are_references (map seen_pair pairs.now) }
 {

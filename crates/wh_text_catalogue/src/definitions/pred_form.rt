@@ -1,4 +1,4 @@
-//! The form of a predicate, level by level.
+//! Tests the form of a predicate, level by level.
 ghost use Rattle.std.specs.Prelude.{◌≡◌, map, option_map};
 ghost use Rattle.std.specs.List.{list_all};
 ghost use Rattle.toml.specs.View.{view};
@@ -98,7 +98,7 @@ fn compound_of(parts: &[Value]) -> Option<PredForm<'_>>
     }
 }
 
-/// The first level of the predicate, or `None` where it has another form.
+/// Returns the first level of the predicate, or `None` where it has another form.
 pub(crate) fn pred_form(value: &Value) -> Option<PredForm<'_>>
     ensures { option_map seen result ≡ pred_form (view value.now) }
 {
@@ -109,7 +109,7 @@ pub(crate) fn pred_form(value: &Value) -> Option<PredForm<'_>>
     }
 }
 
-/// Whether the value is a predicate of at most so many levels, those of its expressions among them.
+/// Tells whether the value is a predicate of at most so many levels, those of its expressions among them.
 #[cycle(pred_levels)]
 pub(crate) fn is_pred(value: &Value, levels: usize) -> bool
     ensures { result ≡ is_pred levels (view value.now) }

@@ -1,10 +1,10 @@
-//! References to columns.
+//! Tests the form of references to columns.
 ghost use Rattle.std.specs.Prelude.{◌≡◌};
 ghost use Rattle.wh_text_catalogue.specs.Reference.{is_reference};
 
 use crate::name_form::is_name;
 
-/// Whether the text is a reference: the name of a view, a dot, and the name of a column.
+/// Tells whether the text is a reference: the name of a view, a dot, and the name of a column.
 pub(crate) fn is_reference(text: &str) -> bool
     ensures { result ≡ is_reference text.now }
 {

@@ -1,4 +1,4 @@
-//! The columns that pairs of a name and a formula make.
+//! Makes the columns that pairs of a name and a formula write.
 ghost use Rattle.std.specs.Prelude.{◌≡◌, ◌⊎◌, [], map, Ok, Err, IfOk, IfErr};
 ghost use Rattle.toml.specs.View.{view};
 ghost use Rattle.wh_text.specs.Inner.Dict.{Grows};
@@ -52,7 +52,7 @@ fn typed_cell(
     Ok(typed)
 }
 
-/// The expressions of the pairs, whose columns are added to the others; texts get numbers from left to right.
+/// Returns the expressions of the pairs, whose columns are added to the others; texts get numbers from left to right.
 pub(crate) fn typed_pairs(
     alloc: Global,
     header: &Header,
@@ -91,7 +91,7 @@ fn group_cell(alloc: Global, header: &Header, value: &Value) -> Result<Cell, Loa
     }
 }
 
-/// The places of the cells that the pairs name, whose columns are added to the others.
+/// Returns the places of the cells that the pairs name, whose columns are added to the others.
 pub(crate) fn grouped(
     alloc: Global,
     header: &Header,

@@ -1,4 +1,4 @@
-//! One view of a catalogue.
+//! Reads one view of a catalogue.
 ghost use Rattle.std.specs.Prelude.{◌≡◌, ◌⊎◌, ◌<◌, length, map, Ok, Err, IfOk, IfErr};
 ghost use Rattle.toml.specs.View.{view};
 ghost use Rattle.wh_text.specs.Inner.Dict.{Grows};
@@ -55,7 +55,7 @@ fn base_view(alloc: Global, table: &Value) -> Result<WrittenView, LoadFault>
     })
 }
 
-/// The view after these, or its first fault.
+/// Returns the view after these, or its first fault.
 pub(crate) fn next_view(
     alloc: Global,
     shape: &Shape,

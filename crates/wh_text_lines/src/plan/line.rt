@@ -1,4 +1,4 @@
-//! The lines of a plan, each by itself.
+//! Reads the lines of a plan, each by itself.
 ghost use Rattle.std.specs.Prelude.{◌≡◌, map, IfOk};
 ghost use Rattle.wh_text_lines.specs.PlanLine.{is_pair, is_scope, is_work, listed_by, pair_from, pair_in, paired_by, plan_line_of, scope_named, scoped_by, searched_by, worked_by};
 
@@ -26,7 +26,7 @@ pub(crate) enum PlanLine {
     Searched(TreeNode),
 }
 
-/// The scope of this name.
+/// Returns the scope of this name.
 fn scope_named(word: &[u8]) -> Option<Scope>
     ensures { result ≡ scope_named word.now }
 {
@@ -39,7 +39,7 @@ fn scope_named(word: &[u8]) -> Option<Scope>
     }
 }
 
-/// Whether the words have the form `scope S`.
+/// Returns whether the words have the form `scope S`.
 fn is_scope(words: &[&[u8]]) -> bool
     ensures { result ≡ is_scope (map (λ word. word.now) words.now) }
 {
@@ -49,7 +49,7 @@ fn is_scope(words: &[&[u8]]) -> bool
     }
 }
 
-/// Whether the words have the form `work N`.
+/// Returns whether the words have the form `work N`.
 fn is_work(words: &[&[u8]]) -> bool
     ensures { result ≡ is_work (map (λ word. word.now) words.now) }
 {
@@ -59,7 +59,7 @@ fn is_work(words: &[&[u8]]) -> bool
     }
 }
 
-/// Whether the words have the form `pair V U W N`.
+/// Returns whether the words have the form `pair V U W N`.
 fn is_pair(words: &[&[u8]]) -> bool
     ensures { result ≡ is_pair (map (λ word. word.now) words.now) }
 {
@@ -69,7 +69,7 @@ fn is_pair(words: &[&[u8]]) -> bool
     }
 }
 
-/// What the words say of the scope, if they do.
+/// Returns what the words say of the scope, if they do.
 fn scoped_by(words: &[&[u8]]) -> Option<PlanLine>
     ensures { result ≡ scoped_by (map (λ word. word.now) words.now) }
 {
@@ -79,7 +79,7 @@ fn scoped_by(words: &[&[u8]]) -> Option<PlanLine>
     Some(PlanLine::Scoped(scope_named(word_at(words, 1))?))
 }
 
-/// What the words say of the work, if they do.
+/// Returns what the words say of the work, if they do.
 fn worked_by(words: &[&[u8]]) -> Option<PlanLine>
     ensures { result ≡ worked_by (map (λ word. word.now) words.now) }
 {
@@ -89,7 +89,7 @@ fn worked_by(words: &[&[u8]]) -> Option<PlanLine>
     Some(PlanLine::Worked(natural(word_at(words, 1))?))
 }
 
-/// The pair of these parts, where each is one.
+/// Makes the pair of these parts, where each is one.
 fn pair_from(
     parent: Option<usize>,
     first: Option<usize>,
@@ -109,19 +109,19 @@ fn pair_from(
     }
 }
 
-/// The pair that these words name, after the first of them.
+/// Returns the pair that these words name, after the first of them.
 fn pair_in(names: &Names, words: &[&[u8]]) -> Option<PairMin>
     ensures { result ≡ pair_in names.now (map (λ word. word.now) words.now) }
 {
     pair_from(
-        names.number(word_at(words, 1)),
-        names.number(word_at(words, 2)),
-        names.number(word_at(words, 3)),
+        names.position(word_at(words, 1)),
+        names.position(word_at(words, 2)),
+        names.position(word_at(words, 3)),
         natural(word_at(words, 4)),
     )
 }
 
-/// The pair that the words say, if they do.
+/// Returns the pair that the words say, if they do.
 fn paired_by(names: &Names, words: &[&[u8]]) -> Option<PlanLine>
     ensures { result ≡ paired_by names.now (map (λ word. word.now) words.now) }
 {
@@ -131,7 +131,7 @@ fn paired_by(names: &Names, words: &[&[u8]]) -> Option<PlanLine>
     Some(PlanLine::Paired(pair_in(names, words)?))
 }
 
-/// The expression that the words say, if they do.
+/// Returns the expression that the words say, if they do.
 fn listed_by(alloc: Global, names: &Names, words: &[&[u8]]) -> Result<Option<PlanLine>, AllocError>
     ensures { IfOk result (λ line. line ≡ listed_by names.now (map (λ word. word.now) words.now)) }
 {
@@ -141,7 +141,7 @@ fn listed_by(alloc: Global, names: &Names, words: &[&[u8]]) -> Result<Option<Pla
     }
 }
 
-/// The node that a line of these words says, if it does.
+/// Returns the node that a line of these words says, if it does.
 fn searched_by(
     alloc: Global,
     names: &Names,
@@ -156,7 +156,7 @@ fn searched_by(
     }
 }
 
-/// What a line of these words says in a plan over these views, or `None` where it says nothing there.
+/// Returns what a line of these words says in a plan over these views, or `None` where it says nothing there.
 pub(crate) fn plan_line_of(
     alloc: Global,
     names: &Names,

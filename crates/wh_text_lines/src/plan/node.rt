@@ -1,4 +1,4 @@
-//! The lines of a plan's tree, each by itself.
+//! Reads the lines of a plan's tree, each by itself.
 ghost use Rattle.std.specs.Prelude.{◌≡◌, ◌<◌, ◌++◌, ◌∷◌, length, map, option_map, IfOk, IsTrue};
 ghost use Rattle.std.specs.List.{slice_split};
 ghost use Rattle.wh_text_lines.specs.NodeLine.{bounded_by, branched_by, couple_in, cycle_from, cycle_in, cycled_by, expressions_of, is_bound, is_branch, is_cycle, is_parting, node_of};
@@ -12,7 +12,7 @@ use wh_dag::Couple;
 use wh_strategy::{Expression, Strategy};
 use wh_text::Names;
 
-/// Whether the words have the form `bound`.
+/// Returns whether the words have the form `bound`.
 fn is_bound(words: &[&[u8]]) -> bool
     ensures { result ≡ is_bound (map (λ word. word.now) words.now) }
 {
@@ -22,7 +22,7 @@ fn is_bound(words: &[&[u8]]) -> bool
     }
 }
 
-/// Whether the words have the form `branch U W`.
+/// Returns whether the words have the form `branch U W`.
 fn is_branch(words: &[&[u8]]) -> bool
     ensures { result ≡ is_branch (map (λ word. word.now) words.now) }
 {
@@ -32,7 +32,7 @@ fn is_branch(words: &[&[u8]]) -> bool
     }
 }
 
-/// Whether the words begin with `cycle`.
+/// Returns whether the words begin with `cycle`.
 fn is_cycle(words: &[&[u8]]) -> bool
     ensures { result ≡ is_cycle (map (λ word. word.now) words.now) }
 {
@@ -42,17 +42,17 @@ fn is_cycle(words: &[&[u8]]) -> bool
     }
 }
 
-/// The couple that these words name, after the first of them.
+/// Returns the couple that these words name, after the first of them.
 fn couple_in(names: &Names, words: &[&[u8]]) -> Option<Couple>
     ensures { result ≡ couple_in names.now (map (λ word. word.now) words.now) }
 {
     Some(Couple {
-        lower: names.number(word_at(words, 1))?,
-        higher: names.number(word_at(words, 2))?,
+        lower: names.position(word_at(words, 1))?,
+        higher: names.position(word_at(words, 2))?,
     })
 }
 
-/// The node that the words `bound` are.
+/// Returns the node that the words `bound` are.
 fn bounded_by(words: &[&[u8]]) -> Option<TreeNode>
     ensures { result ≡ bounded_by (map (λ word. word.now) words.now) }
 {
@@ -63,7 +63,7 @@ fn bounded_by(words: &[&[u8]]) -> Option<TreeNode>
     }
 }
 
-/// The node that the words `branch U W` are.
+/// Returns the node that the words `branch U W` are.
 fn branched_by(names: &Names, words: &[&[u8]]) -> Option<TreeNode>
     ensures { result ≡ branched_by names.now (map (λ word. word.now) words.now) }
 {
@@ -73,21 +73,21 @@ fn branched_by(names: &Names, words: &[&[u8]]) -> Option<TreeNode>
     Some(TreeNode::Branch(couple_in(names, words)?))
 }
 
-/// Whether the byte parts the expressions of a cycle.
+/// Returns whether the byte parts the expressions of a cycle.
 fn is_parting(byte: u8) -> bool
     ensures { result ≡ is_parting byte }
 {
     byte == b';'
 }
 
-/// The parts of a line between its semicolons.
+/// Returns the parts of a line between its semicolons.
 fn parts_of(alloc: Global, line: &[u8]) -> Result<Vec<&[u8]>, AllocError>
     ensures { IfOk result (λ parts. map (λ part. part.now) parts.items ≡ slice_split is_parting line.now) }
 {
     line.split(|byte| is_parting(*byte)).collect(alloc)
 }
 
-/// The expressions after those in the list, one in each part, or `None` where a part is none.
+/// Returns the list with the expressions in the parts behind it, one in each, or `None` where a part is none.
 fn with_parts(
     alloc: Global,
     names: &Names,
@@ -108,7 +108,7 @@ fn with_parts(
     Ok(Some(list))
 }
 
-/// The expressions in these words, and in each of the parts.
+/// Returns the expressions in these words, and in each of the parts.
 fn expressions_in(
     alloc: Global,
     names: &Names,
@@ -126,7 +126,7 @@ fn expressions_in(
     with_parts(alloc, names, list, parts)
 }
 
-/// The expressions in these parts, the first of which has the word `cycle` before its own.
+/// Returns the expressions in these parts, the first of which has the word `cycle` before its own.
 fn cycle_from(
     alloc: Global,
     names: &Names,
@@ -142,7 +142,7 @@ fn cycle_from(
     expressions_in(alloc, names, &words[1..], parts)
 }
 
-/// The expressions in the parts of a line `cycle E; E; ..`.
+/// Returns the expressions in the parts of a line `cycle E; E; ..`.
 fn cycle_in(
     alloc: Global,
     names: &Names,
@@ -156,7 +156,7 @@ fn cycle_in(
     }
 }
 
-/// The node that a line `cycle E; E; ..` is.
+/// Returns the node that a line `cycle E; E; ..` is.
 fn cycled_by(alloc: Global, names: &Names, line: &[u8]) -> Result<Option<TreeNode>, AllocError>
     ensures { IfOk result (λ node. node ≡ cycled_by names.now line.now) }
 {
@@ -167,7 +167,7 @@ fn cycled_by(alloc: Global, names: &Names, line: &[u8]) -> Result<Option<TreeNod
     }
 }
 
-/// The node that a line of these words says, over these views, `bound`, `branch U W` or `cycle E; E; ..`, or `None`.
+/// Returns the node that a line of these words says, over these views, `bound`, `branch U W` or `cycle E; E; ..`, or `None`.
 pub(super) fn node_of(
     alloc: Global,
     names: &Names,

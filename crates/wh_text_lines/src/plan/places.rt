@@ -1,4 +1,4 @@
-//! Where, after some nodes of a tree in preorder, trees are still to stand.
+//! Where, after some nodes of a tree in preorder, trees are still to stand. So a line too many is found when it is read.
 ghost use Rattle.std.specs.Prelude.{◌≡◌, ◌==◌, ◌∷◌, [], length, IfOk};
 ghost use Rattle.wh_text_lines.specs.TreeGrowth.{after_node};
 
@@ -26,7 +26,7 @@ impl Model for Places {
 }
 
 impl Places {
-    /// The place of a root.
+    /// Makes the place of a root.
     pub(super) fn root(alloc: Global) -> Places
         ensures { result ≡ 1 ∷ [] }
     {
@@ -36,14 +36,14 @@ impl Places {
         }
     }
 
-    /// Whether there are none.
+    /// Returns whether no place is left.
     pub(super) fn is_empty(&self) -> bool
         ensures { result ≡ (length self.now == 0) }
     {
         self.next.is_none()
     }
 
-    /// The places after a node at the next one, or `None` where there is none or it lies too deep.
+    /// Returns the places after a node at the next one, or `None` where there is none or it lies too deep.
     pub(super) fn after(self, node: &TreeNode) -> Result<Option<Places>, AllocError>
         ensures { IfOk result (λ places. places ≡ after_node node.now self) }
     {

@@ -1,4 +1,4 @@
-//! What the lines of a plan say together.
+//! What the lines of a plan say together, by which the next line is judged.
 ghost use Rattle.std.specs.Prelude.{◌≡◌, ◌||◌, [], IfOk};
 ghost use Rattle.wh_text_lines.specs.ListedLines.{if_follows};
 ghost use Rattle.wh_text_lines.specs.PlanText.{has_pairs, is_certifying, may_end, may_follow, may_stand, nodes_in, plan_grammar, scope_in};
@@ -37,7 +37,7 @@ impl Model for Said {
 }
 
 impl Said {
-    /// What no line has said.
+    /// Returns what no line has said. Takes no memory.
     fn new(alloc: Global) -> Said
         ensures { result ≡ [] }
     {
@@ -48,14 +48,14 @@ impl Said {
         }
     }
 
-    /// What each line says.
+    /// Gives what each line says.
     pub(super) fn into_lines(self) -> Vec<PlanLine>
         ensures { result.items ≡ self }
     {
         self.lines
     }
 
-    /// Whether a line of this kind may stand after these.
+    /// Returns whether a line of this kind may stand after these.
     fn may_take(&self, line: &PlanLine) -> bool
         ensures { result ≡ may_stand self.now line.now }
     {
@@ -68,14 +68,14 @@ impl Said {
         }
     }
 
-    /// Whether lines may end here.
+    /// Returns whether lines may end here.
     fn may_end(&self) -> bool
         ensures { result ≡ may_end self.now }
     {
         self.lines.len() > 1 && (has_pairs(scope_in(&self.lines)) || self.places.is_empty())
     }
 
-    /// These with what a line says, or `None` where it says nothing that may stand after them.
+    /// Adds what a line says, or answers `None` where it says nothing that may stand after these.
     fn with(self, line: Option<PlanLine>) -> Result<Option<Said>, AllocError>
         ensures { IfOk result (λ said. said ≡ if_follows may_follow self line) }
     {
@@ -103,14 +103,14 @@ impl Said {
     }
 }
 
-/// Whether a line is of the certificate, this one or one before it.
+/// Returns whether a line is of the certificate, this one or one before it.
 fn certifying_with(before: bool, line: &PlanLine) -> bool
     ensures { result ≡ (before || is_certifying line.now) }
 {
     before || is_certifying(line)
 }
 
-/// Whether the line is of the certificate.
+/// Returns whether the line is of the certificate.
 fn is_certifying(line: &PlanLine) -> bool
     ensures { result ≡ is_certifying line.now }
 {
@@ -120,7 +120,7 @@ fn is_certifying(line: &PlanLine) -> bool
     }
 }
 
-/// The places that the node leaves which a line says, if it does.
+/// Returns the places that the node leaves which a line says, if it does.
 fn places_with(places: Places, line: &PlanLine) -> Result<Option<Places>, AllocError>
     ensures { IfOk result (λ after. after ≡ after_nodes (nodes_in line.now) places) }
 {
@@ -130,7 +130,7 @@ fn places_with(places: Places, line: &PlanLine) -> Result<Option<Places>, AllocE
     }
 }
 
-/// Whether the certificate of this scope is of pairs.
+/// Returns whether the certificate of this scope is of pairs.
 fn has_pairs(scope: Scope) -> bool
     ensures { result ≡ has_pairs scope }
 {
@@ -140,7 +140,7 @@ fn has_pairs(scope: Scope) -> bool
     }
 }
 
-/// The scope that the first of these lines says.
+/// Returns the scope that the first of these lines says.
 pub(super) fn scope_in(lines: &[PlanLine]) -> Scope
     ensures { result ≡ scope_in lines.now }
 {

@@ -1,4 +1,4 @@
-//! The tree of a plan as text: a line for each node, in preorder.
+//! Writes the tree of a plan as text: a line for each node, in preorder.
 ghost use Rattle.std.specs.Prelude.{◌≡◌, ◌++◌, OnOk};
 ghost use Rattle.std.specs.List.{join_with_byte};
 ghost use Rattle.wh_text_lines.specs.TreeText.{branch_words, cycle_text, node_text, parted_text, tree_text};

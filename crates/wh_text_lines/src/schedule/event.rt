@@ -1,4 +1,4 @@
-//! The events of a schedule, each a line.
+//! The events of a schedule, and how each is read from a line.
 ghost use Rattle.std.specs.Prelude.{◌≡◌, map};
 ghost use Rattle.wh_text_lines.specs.ScheduleLine.{event_of, lone_event, numbered_event, read_event};
 
@@ -50,7 +50,7 @@ pub enum ScheduledEvent {
     },
 }
 
-/// The event that this word says by itself.
+/// Returns the event that this word says by itself.
 fn lone_event(word: &[u8]) -> Option<ScheduledEvent>
     ensures { result ≡ lone_event word.now }
 {
@@ -67,7 +67,7 @@ fn lone_event(word: &[u8]) -> Option<ScheduledEvent>
     }
 }
 
-/// The event of this word and this number.
+/// Returns the event of this word and this number.
 fn numbered_event(word: &[u8], number: usize) -> Option<ScheduledEvent>
     ensures { result ≡ numbered_event word.now number }
 {
@@ -84,19 +84,19 @@ fn numbered_event(word: &[u8], number: usize) -> Option<ScheduledEvent>
     }
 }
 
-/// The event `read D VIEW LIMIT`, of these words below the first.
+/// Returns the event `read D VIEW LIMIT`, of these words below the first.
 fn read_event(names: &Names, desk: &[u8], view: &[u8], limit: &[u8]) -> Option<ScheduledEvent>
     ensures { result ≡ read_event names.now desk.now view.now limit.now }
 {
     Some(ScheduledEvent::Read {
         desk: number_within(0, MOST, desk)?,
-        view: names.number(view),
+        view: names.position(view),
         limit: number_within(0, MOST, limit)?,
     })
 }
 
-/// The event that a line of these words says over these views, or `None` where it says none.
-pub(super) fn event_of(names: &Names, words: &[&[u8]]) -> Option<ScheduledEvent>
+/// Returns the event that a line of these words says over these views, or `None` where it says none.
+pub fn event_of(names: &Names, words: &[&[u8]]) -> Option<ScheduledEvent>
     ensures { result ≡ event_of names.now (map (λ word. word.now) words.now) }
 {
     match words {

@@ -1,4 +1,4 @@
-//! The lines of a schedule, each by itself.
+//! Reads the lines of a schedule, each by itself.
 ghost use Rattle.std.specs.Prelude.{◌≡◌, map};
 ghost use Rattle.wh_text_lines.specs.ScheduleLine.{head_number, schedule_line_of};
 
@@ -21,7 +21,7 @@ pub(crate) enum ScheduleLine {
     Event(ScheduledEvent),
 }
 
-/// The number of a line of the head, which is this word and a number from the least to the most.
+/// Returns the number of a line of the head, which is this word and a number from the least to the most.
 fn head_number(word: &[u8], least: usize, most: usize, words: &[&[u8]]) -> Option<usize>
     ensures { result ≡ head_number word.now least most (map (λ word. word.now) words.now) }
 {
@@ -31,7 +31,7 @@ fn head_number(word: &[u8], least: usize, most: usize, words: &[&[u8]]) -> Optio
     }
 }
 
-/// What a line of these words says in a schedule over these views, or `None` where it says nothing there.
+/// Returns what a line of these words says in a schedule over these views, or `None` where it says nothing there.
 pub(super) fn schedule_line_of(names: &Names, words: &[&[u8]]) -> Option<ScheduleLine>
     ensures { result ≡ schedule_line_of names.now (map (λ word. word.now) words.now) }
 {

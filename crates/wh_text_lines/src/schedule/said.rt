@@ -1,4 +1,4 @@
-//! What the lines of a schedule say together.
+//! What the lines of a schedule say together, by which the next line is judged.
 ghost use Rattle.std.specs.Prelude.{◌≡◌, [], IfOk};
 ghost use Rattle.wh_text_lines.specs.ListedLines.{if_follows};
 ghost use Rattle.wh_text_lines.specs.ScheduleText.{may_end, may_follow, schedule_grammar};
@@ -25,14 +25,14 @@ impl Model for Said {
 }
 
 impl Said {
-    /// What each line says.
+    /// Gives what each line says.
     pub(super) fn into_lines(self) -> Vec<ScheduleLine>
         ensures { result.items ≡ self }
     {
         self.lines
     }
 
-    /// Whether a line of this kind may stand after these.
+    /// Returns whether a line of this kind may stand after these.
     fn may_take(&self, line: &ScheduleLine) -> bool
         ensures { result ≡ may_follow self.now line.now }
     {
@@ -45,7 +45,7 @@ impl Said {
         }
     }
 
-    /// These with what a line says, or `None` where it says nothing that may stand after them.
+    /// Adds what a line says, or answers `None` where it says nothing that may stand after these.
     fn with(self, line: Option<ScheduleLine>) -> Result<Option<Said>, AllocError>
         ensures { IfOk result (λ said. said ≡ if_follows may_follow self line) }
     {

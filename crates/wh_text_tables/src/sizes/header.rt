@@ -1,4 +1,4 @@
-//! The header of sizes.
+//! Reads the header of sizes.
 ghost use Rattle.std.specs.Prelude.{◌≡◌};
 ghost use Rattle.csv.specs.Records.{fields_of};
 ghost use Rattle.wh_text_tables.specs.SizesText.{columns_of};
@@ -19,7 +19,7 @@ pub(crate) enum Columns {
     Weighted,
 }
 
-/// The columns below this header, if it is one of sizes.
+/// Returns the columns below this header, if it is one of sizes.
 pub(crate) fn columns_of(header: &StringRecord) -> Option<Columns>
     ensures { result ≡ columns_of (fields_of header.now) }
 {

@@ -1,4 +1,4 @@
-//! The rows of a part, read ahead of the dictionary that its texts get numbers in.
+//! Reads the rows of a part ahead of the dictionary in which its texts get numbers.
 
 ghost use Rattle.std.specs.Prelude.{◌≡◌, ◌⊎◌, length, IfSome, IfOk, IfErr, OnErr, Ok, Err};
 ghost use Rattle.wh_row.specs.Bag.{HasWidth};
@@ -16,7 +16,7 @@ use wh_row::Bag;
 use wh_text::{Column, Dict, LoadFault};
 use wh_threads::ThreadBudget;
 
-/// What the text of a table or of changes gives as if no text had a number yet.
+/// The rows of a table's text or of a text of changes, read as if no text had a number yet.
 #[derive(Drop)]
 pub struct RowsAhead {
     pieces: Vec<RowsRead>,
@@ -31,8 +31,8 @@ impl Model for RowsAhead {
     ghost view = { λ ahead. ahead.pieces.items };
 }
 
-/// Reads the text of a table or of changes of these columns ahead of a dictionary, by the caller's thread. There is none where
-/// the text has a fault of its own, or memory is refused.
+/// Reads the text of a table or of changes of these columns ahead of a dictionary, by the caller's thread.
+/// It is `None` where the text has a fault of its own, or memory is refused.
 pub fn read_ahead(
     alloc: Global,
     content: Content,
@@ -50,8 +50,10 @@ pub fn read_ahead(
     Some(RowsAhead { pieces })
 }
 
-/// What [`crate::read_table`] or [`crate::read_changes`] answers for this text, of which this was read ahead. Each text of the
-/// part is looked for in the dictionary once.
+/// Gives the rows of a text that was read ahead, with the numbers that its texts have in the dictionary. Each text of the part is looked
+/// for in the dictionary once.
+/// The answer and the errors are those of [`crate::read_table`] or [`crate::read_changes`] for this text. After an error the dictionary is
+/// as before.
 pub fn read_from<R: Threads + Sync>(
     budget: &ThreadBudget<'_, R>,
     content: Content,

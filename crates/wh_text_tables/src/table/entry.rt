@@ -1,4 +1,4 @@
-//! One record of a table or of changes: its count, and the cells of its row.
+//! Reads one record of a table or of changes: its count, and the cells of its row.
 ghost use Rattle.std.specs.Prelude.{◌≡◌, ◌⊎◌, ◌+◌, ◌≤◌, drop, length, List, ℕ, ℤ, IfOk, IfErr, OnOk, OnErr, Some, None};
 ghost use Rattle.csv.specs.Records.{fields_of};
 ghost use Rattle.wh_text.specs.Dict.{with_texts};
@@ -49,7 +49,7 @@ fn number_of(
             Some(value) => Ok(value),
             None => Err(LoadFault::Number(number)),
         },
-        Kind::Text => Ok(dict.number(alloc, text)?),
+        Kind::Text => Ok(dict.intern(alloc, text)?),
     }
 }
 

@@ -1,4 +1,4 @@
-//! The header of a table or of changes.
+//! Reads the header of a table or of changes.
 ghost use Rattle.std.specs.Prelude.{◌≡◌, ◌≤◌, drop, length};
 ghost use Rattle.std.specs.Cmp.Lexicographic.{pointwise};
 ghost use Rattle.std.specs.Str.{bytes_eq};
@@ -10,12 +10,12 @@ use crate::records::cell;
 use csv::StringRecord;
 use wh_text::Column;
 
-/// What a part tells.
+/// The two things that a part of rows may tell.
 #[derive(Clone, Copy)]
 pub enum Content {
-    /// A table.
+    /// The rows of a table.
     Table,
-    /// Changes to one.
+    /// The changes to a table.
     Changes,
 }
 
@@ -31,7 +31,7 @@ pub(crate) enum Counting {
 }
 
 impl Counting {
-    /// How many cells of a record tell its count.
+    /// Returns how many cells of a record tell its count.
     pub(crate) fn cells(self) -> usize
         ensures { result ≡ count_cells self }
     {
@@ -71,7 +71,7 @@ fn is_counted_header(cells: &StringRecord, columns: &[Column]) -> bool
     are_names(cells, 1, columns)
 }
 
-/// How the records below this header tell their counts, if it is a header of these columns.
+/// Tells how the records below this header tell their counts, if it is a header of these columns.
 pub(crate) fn counting_of(
     content: Content,
     cells: &StringRecord,

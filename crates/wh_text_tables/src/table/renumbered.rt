@@ -1,4 +1,4 @@
-//! Rows whose texts were numbered by themselves, with the numbers that their texts have in a dictionary.
+//! Gives rows whose texts were numbered by themselves the numbers that these texts have in a dictionary.
 
 ghost use Rattle.std.specs.Prelude.{◌≡◌, ◌<◌, List, ℕ, IfSome, IfOk, OnOk, Some, length, map, slice_get, false, true};
 ghost use Rattle.std.specs.List.{AllZip};
@@ -22,7 +22,7 @@ pub(crate) struct Numbered {
     numbers: Vec<i64>,
 }
 
-/// What was read of each piece, with the numbers of its texts in a dictionary, which gets those that it lacks.
+/// Returns what was read of each piece, with the numbers of its texts in a dictionary, which gets those that it lacks.
 pub(crate) fn number_texts(
     alloc: Global,
     pieces: Vec<RowsRead>,
@@ -53,7 +53,7 @@ fn numbers_of(alloc: Global, texts: &Dict, dict: &mut Dict) -> Result<Vec<i64>, 
 {
     let mut numbers = Vec::new(alloc);
     for place in 0..texts.len() {
-        let number = dict.number(alloc, text_at(texts, place))?;
+        let number = dict.intern(alloc, text_at(texts, place))?;
         numbers.push(number)?;
     }
     Ok(numbers)
@@ -68,7 +68,7 @@ fn text_at(texts: &Dict, place: usize) -> &str
     texts.text(place as i64).unwrap_or("")
 }
 
-/// The records of all parts with the numbers of their texts in the dictionary. Where no column is of texts they are as they were.
+/// Returns the records of all parts with the numbers of their texts in the dictionary. Where no column is of texts they are as they were.
 pub(crate) fn renumbered_parts<R: Threads + Sync>(
     budget: &ThreadBudget<'_, R>,
     columns: &[Column],

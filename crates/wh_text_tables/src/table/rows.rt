@@ -1,4 +1,4 @@
-//! The records of a table or of changes, taken one by one.
+//! Takes the records of a table or of changes one by one.
 ghost use Rattle.std.specs.Prelude.{◌≡◌, ◌⊎◌, ◌+◌, IfErr, OnOk, OnErr, Ok, Err, length};
 ghost use Rattle.csv.specs.Records.{fields_of};
 ghost use Rattle.wh_text.specs.Columns.{kinds_of, names_of};

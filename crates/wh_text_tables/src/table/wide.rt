@@ -1,9 +1,9 @@
-//! The rows of a part in two steps, the first of which knows no dictionary.
+//! Reads the rows of a part in two steps, the first of which knows no dictionary, so that several threads can take it.
 //!
-//! The text below the header of a large part is cut into as many pieces as there are threads, each at the end of a record; a smaller part
-//! is one piece. A piece is read as if no text had a number yet. Then the texts get their numbers, piece by piece in the order of the
-//! text, which are those that one thread would give them. Only a part without a fault is read so: else one thread reads it anew, and
-//! finds the first fault of the text.
+//! The text below the header of a large part is cut into as many pieces as there are threads, each at the end of a record. A smaller part
+//! is one piece. A piece is read as if no text had a number yet. Then the texts get their numbers, piece by piece in the order of the text,
+//! which are those that one thread would give them. Only a part without a fault is read so. Of any other, one thread reads the text anew,
+//! and finds its first fault.
 
 ghost use Rattle.std.specs.Prelude.{◌≡◌, ℕ, List, [], IfSome, None, Ok, flat_map};
 ghost use Rattle.std.specs.List.{AllZip};
@@ -20,7 +20,7 @@ ghost use Rattle.wh_text_tables.specs.declared.table.header.Content.{Content};
 
 use crate::cut::{record_end, without_mark};
 use crate::part::{read_kind, read_rows};
-use crate::records::Records;
+use crate::records::CsvRecords;
 use crate::table::answers::all_of;
 use crate::table::header::Counting;
 use crate::table::renumbered::{number_texts, renumbered_parts};
@@ -40,7 +40,7 @@ struct Layout {
     width: usize,
 }
 
-/// The rows of a part, read by several threads; none where it is small, has a fault, or memory is refused.
+/// Returns the rows of a part, read by several threads; none where it is small, has a fault, or memory is refused.
 pub(crate) fn read_beside<R: Threads + Sync>(
     budget: &ThreadBudget<'_, R>,
     reader: &RowsReader<'_>,
@@ -59,7 +59,7 @@ pub(crate) fn read_beside<R: Threads + Sync>(
     bag_from(budget, reader.columns, pieces, dict)
 }
 
-/// The bag of what pieces gave, whose texts get numbers in the dictionary; where there is none, they lose them again.
+/// Returns the bag of what pieces gave, whose texts get numbers in the dictionary; where there is none, they lose them again.
 pub(crate) fn bag_from<R: Threads + Sync>(
     budget: &ThreadBudget<'_, R>,
     columns: &[Column],
@@ -113,7 +113,7 @@ fn read_part_beside<R: Threads + Sync>(
     read_pieces(budget, reader, layout, &texts)
 }
 
-/// What the records of a part give as one piece, if that goes.
+/// Returns what the records of a part give as one piece, if that goes.
 pub(crate) fn read_part_alone(reader: &RowsReader<'_>, text: &[u8]) -> Option<Vec<RowsRead>>
     ensures { IfSome result (λ pieces. IsReadAlone reader.now.content reader.now.columns.now (records_of text.now) pieces.items) }
 {
@@ -143,7 +143,7 @@ fn layout_of(reader: &RowsReader<'_>, head: &[u8]) -> Option<Layout>
     ensures { IfSome result (λ l. below_header (entry_scheme reader.now.content reader.now.columns.now) (records_of head.now) ≡ Ok (record { kind = l.counting; width = l.width; rows = [] })) }
 {
     let alloc = reader.alloc;
-    let mut records = Records::new(alloc, head);
+    let mut records = CsvRecords::new(alloc, head);
     let mut cells = StringRecord::new(alloc);
     let Ok(counting) = read_kind(reader, &mut records, &mut cells) else {
         return None;
@@ -199,7 +199,7 @@ fn read_piece(reader: &RowsReader<'_>, layout: Layout, text: &[u8]) -> Option<Ro
     ensures { IfSome result (λ read. IsPieceRead layout.counting (kinds_of reader.now.columns.now) layout.width (records_of text.now) read.dict read.counted) }
 {
     let alloc = reader.alloc;
-    let mut records = Records::below_header(alloc, text);
+    let mut records = CsvRecords::below_header(alloc, text);
     let mut cells = StringRecord::new(alloc);
     let mut rows = RowsRead {
         dict: Dict::new(alloc),

@@ -1,5 +1,5 @@
-//! The lines of a table: its header, and a line for each row.
-ghost use Rattle.std.specs.Prelude.{◌≡◌, ◌+◌, ◌++◌, ◌∷◌, ℕ, List, [], drop, OnOk, OnErr};
+//! Writes the lines of a table: its header, and a line for each row.
+ghost use Rattle.std.specs.Prelude.{◌≡◌, ◌+◌, ◌++◌, ◌∷◌, ℕ, List, [], drop, OnOk};
 ghost use Rattle.std.specs.Fmt.{signed_decimal};
 ghost use Rattle.std.specs.List.{list_any};
 ghost use Rattle.csv.specs.Writing.{default_writer, escaped, field_text, fields_text, needs_byte, quoted, row_text};
@@ -129,22 +129,6 @@ fn write_row(
     Ok(())
 }
 
-/// Rows are written into a block, which goes to the text when it has so many bytes: a failure leaves whole blocks to take back.
-const BLOCK: usize = 8_192;
-
-/// Passes a block on to the text when it is large.
-fn pass_on(out: &mut Vec<u8>, block: &mut Vec<u8>) -> Result<(), AllocError>
-    ensures whole { OnOk result (out.new.items ++ block.new.items ≡ out.old.items ++ block.old.items) }
-    ensures begins { (more : List ℕ) × (out.new.items ≡ out.old.items ++ more) }
-{
-    if block.len() < BLOCK {
-        return Ok(());
-    }
-    out.extend_from_slice(block)?;
-    block.clear();
-    Ok(())
-}
-
 /// Appends these rows, a line each.
 pub(crate) fn append_rows(
     out: &mut Vec<u8>,
@@ -152,13 +136,10 @@ pub(crate) fn append_rows(
     rows: Rows<'_>,
     dict: &Dict,
 ) -> Result<(), AllocError>
-    ensures ok { OnOk result (out.new.items ≡ out.old.items ++ rows_text columns.now dict.now rows.entry) }
-    ensures begins { OnErr result ((more : List ℕ) × (out.new.items ≡ out.old.items ++ more)) }
+    ensures { OnOk result (out.new.items ≡ out.old.items ++ rows_text columns.now dict.now rows.entry) }
 {
-    let mut block = Vec::new(*out.allocator());
     for (row, count) in rows {
-        write_row(&mut block, columns, row, count, dict)?;
-        pass_on(out, &mut block)?;
+        write_row(out, columns, row, count, dict)?;
     }
-    out.extend_from_slice(&block)
+    Ok(())
 }

@@ -1,14 +1,18 @@
-//! Writing tables, by several threads where there are rows enough for two.
+//! Writes tables, by several threads where there are rows enough for two.
 //!
-//! The rows are cut into as many parts as there are threads. Each thread writes the lines of its part into a text of its own, as one
-//! thread does of all; the texts are then appended in the order of the parts.
+//! The rows are cut into as many parts as there are threads. Each thread writes the lines of its part into a text of its own, as one thread
+//! does of all. These texts, in the order of the parts, are chunks of what is written, so none is copied.
 
-ghost use Rattle.std.specs.Prelude.{◌≡◌, ◌++◌, ℕ, List, IsOk, IfOk, OnOk, OnErr};
+ghost use Rattle.std.specs.Prelude.{◌≡◌, ◌++◌, IsOk, IfOk, OnOk, OnErr};
 ghost use Rattle.std.specs.List.{AllZip};
+ghost use Rattle.csv.specs.Writing.{default_writer, row_text};
 ghost use Rattle.wh_row.specs.Records.{joined};
+ghost use Rattle.wh_text.specs.Columns.{names_of};
+ghost use Rattle.wh_text_tables.specs.TableText.{counted_header};
 ghost use Rattle.wh_text_tables.specs.TableWritten.{table_text};
-ghost use Rattle.wh_text_tables.specs.Inner.TableWritten.{AreDone, rows_text, whole_text, written_text};
+ghost use Rattle.wh_text_tables.specs.Inner.TableWritten.{AreDone, rows_text, whole_text};
 
+use crate::chunks::ChunkedText;
 use crate::table::write::{append_rows, write_header};
 use std::alloc::{AllocError, Global};
 use std::thread::Threads;
@@ -16,63 +20,59 @@ use wh_row::{Bag, Rows};
 use wh_text::{Column, Dict};
 use wh_threads::{ThreadBudget, Work};
 
-/// Appends the table as it is written: the header `#` and the columns' names, then each row's count and cells, in rising
-/// order of the rows, a line each. Fields are in quotes where they have a comma, a quote, CR or LF. A cell of a text column
-/// is written as the text of its number, as nothing where the dictionary has none of this number. Where memory fails,
-/// nothing is appended. Takes O(b) time for b bytes of text, of which the threads share all but a copy.
+/// Appends the table as it is written: the header `#` and the columns' names, then each row's count and cells, in rising order of the rows,
+/// a line each. Fields are in quotes where they have a comma, a quote, CR or LF. A cell of a text column is written as the text of its
+/// number, and as nothing where the dictionary has no such number.
+/// Where memory is refused, nothing is appended.
+/// Takes O(b) time for b bytes of text, which the threads share.
 pub fn write_table<R: Threads + Sync>(
     budget: &ThreadBudget<'_, R>,
-    out: &mut Vec<u8>,
+    out: &mut ChunkedText,
     columns: &[Column],
     bag: &Bag,
     dict: &Dict,
 ) -> Result<(), AllocError>
-    ensures ok { OnOk result (out.new.items ≡ out.old.items ++ table_text columns.now dict.now bag.now) }
-    ensures err { OnErr result (out.new.items ≡ out.old.items) }
+    ensures ok { OnOk result (out.new ≡ out.old ++ table_text columns.now dict.now bag.now) }
+    ensures err { OnErr result (out.new ≡ out.old) }
 {
-    let start = out.len();
-    let written = append_table(budget, out, columns, bag, dict);
-    if written.is_err() {
-        out.truncate(start);
-    }
-    written
+    let table = table_chunks(budget, columns, bag, dict)?;
+    out.append_chunks(table)
 }
 
-/// Appends the table line by line.
-fn append_table<R: Threads + Sync>(
+/// The table line by line.
+fn table_chunks<R: Threads + Sync>(
     budget: &ThreadBudget<'_, R>,
-    out: &mut Vec<u8>,
     columns: &[Column],
     bag: &Bag,
     dict: &Dict,
-) -> Result<(), AllocError>
-    ensures ok { OnOk result (out.new.items ≡ out.old.items ++ table_text columns.now dict.now bag.now) }
-    ensures begins { OnErr result ((more : List ℕ) × (out.new.items ≡ out.old.items ++ more)) }
+) -> Result<ChunkedText, AllocError>
+    ensures { IfOk result (λ table. table ≡ table_text columns.now dict.now bag.now) }
 {
-    let mut header = Vec::new(budget.alloc);
-    write_header(&mut header, columns)?;
-    out.extend_from_slice(&header)?;
+    let mut lines = Vec::new(budget.alloc);
+    write_header(&mut lines, columns)?;
     let count = budget.parts(Work::WrittenRows, bag.len());
     if count < 2 {
-        return append_rows(out, columns, bag.rows(), dict);
+        append_rows(&mut lines, columns, bag.rows(), dict)?;
+        return Ok(ChunkedText::of(lines));
     }
     let parts = bag.rows().in_parts(budget.alloc, count)?;
-    append_parts(budget, out, columns, &parts, dict)
+    let mut table = ChunkedText::of(lines);
+    append_parts(budget, &mut table, columns, &parts, dict)?;
+    Ok(table)
 }
 
 /// Appends the rows of these parts, a line each, each part written by a thread.
 fn append_parts<R: Threads + Sync>(
     budget: &ThreadBudget<'_, R>,
-    out: &mut Vec<u8>,
+    out: &mut ChunkedText,
     columns: &[Column],
     parts: &[Rows<'_>],
     dict: &Dict,
 ) -> Result<(), AllocError>
-    ensures ok { OnOk result (out.new.items ≡ out.old.items ++ rows_text columns.now dict.now (joined parts.now)) }
-    ensures begins { OnErr result ((more : List ℕ) × (out.new.items ≡ out.old.items ++ more)) }
+    ensures { OnOk result (out.new ≡ out.old ++ rows_text columns.now dict.now (joined parts.now)) }
 {
     let texts = texts_of(budget, columns, parts, dict)?;
-    append_each(out, &texts)
+    append_each(out, texts)
 }
 
 /// The lines of the rows of each part in a text, each by a thread.
@@ -87,7 +87,7 @@ fn texts_of<R: Threads + Sync>(
     let alloc = budget.alloc;
     let write = move |part: &Rows<'_>| -> Result<Vec<u8>, AllocError>
         ensures { IfOk result (λ text. text.items ≡ rows_text columns.entry.now dict.entry.now part.now) }
-    { text_of(alloc, columns, part.again(), dict) };
+    { text_of(alloc, columns, part.fork(), dict) };
     budget.each(parts, write)
 }
 
@@ -106,25 +106,15 @@ fn text_of(
 }
 
 /// Appends the texts one after another, up to the first that was not written.
-fn append_each(out: &mut Vec<u8>, texts: &[Result<Vec<u8>, AllocError>]) -> Result<(), AllocError>
-    ensures ok { OnOk result (out.new.items ≡ out.old.items ++ whole_text texts.now) }
-    ensures done { OnOk result (AreDone texts.now) }
-    ensures begins { OnErr result ((more : List ℕ) × (out.new.items ≡ out.old.items ++ more)) }
+fn append_each(
+    out: &mut ChunkedText,
+    texts: Vec<Result<Vec<u8>, AllocError>>,
+) -> Result<(), AllocError>
+    ensures ok { OnOk result (out.new ≡ out.old ++ whole_text texts.items) }
+    ensures done { OnOk result (AreDone texts.items) }
 {
     for text in texts {
-        append_one(out, text)?;
+        out.append(text?)?;
     }
     Ok(())
-}
-
-/// Appends a text that was written. It fails where the writing failed.
-fn append_one(out: &mut Vec<u8>, text: &Result<Vec<u8>, AllocError>) -> Result<(), AllocError>
-    ensures ok { OnOk result (out.new.items ≡ out.old.items ++ written_text text.now) }
-    ensures done { OnOk result (IsOk text.now) }
-    ensures err { OnErr result (out.new.items ≡ out.old.items) }
-{
-    match text {
-        Ok(text) => out.extend_from_slice(text),
-        Err(_) => Err(AllocError),
-    }
 }

@@ -10,7 +10,7 @@ use Rattle.whview.specs.Output.{IsMemoryTold}
 
 -- an answer is told as it is, and want of memory where there is none
 abbrev pub IsTold : {E : Type 0} → Result Answer E → List ℕ → ℕ → Type 0
-IsTold answer text status = MatchResult answer (λ a. (text ≡ a.text.items) × (status ≡ status_number a.status)) (λ _. IsMemoryTold text status)
+IsTold answer text status = MatchResult answer (λ a. (text ≡ a.text) × (status ≡ status_number a.status)) (λ _. IsMemoryTold text status)
 
 -- (of a call in the program) what is printed where the bytes could not be had, and the status; of want of memory nothing is
 abbrev pub IsUnreadShown : ReadFault → List ℕ → ℕ → Type 0

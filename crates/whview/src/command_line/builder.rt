@@ -1,33 +1,28 @@
-//! The command line, as `clap` is to read it.
+//! Builds the command line, as `clap` is to read it.
 
-ghost use Rattle.std.specs.Prelude.{◌≡◌, codes, false, IfOk};
-ghost use Rattle.clap.specs.Words.{app_of, new_app, rule_of, with_subcommand};
+ghost use Rattle.std.specs.Prelude.{◌≡◌, [], codes, false, take, IfOk};
+ghost use Rattle.clap.specs.Words.{app_of, rule_of, with_subcommand};
 ghost use Rattle.clap.specs.declared.builder.command.Command.TheViews.{out-Command};
-ghost use Rattle.whview.specs.CommandLine.{budget_rule, command_app, cost_rule, input_app, input_rule, night_app, number_rule, plan_app, planning_app, print_rule, seats_app, whview_app, with_commands};
+ghost use Rattle.whview.specs.CommandLine.{Amount, File, Number, Print, command_of, options_of, priced, program_of, rule_for, table, usual_limit, whview_app};
 
 use super::notes;
 use clap::builder::ValueParser;
 use clap::{Arg, Command};
 use std::alloc::{AllocError, Global};
 
-/// The program with its commands.
+/// Builds the program with its commands.
+/// Fails for want of memory.
 pub fn whview_command<'a>(alloc: Global) -> Result<Command<'a>, AllocError>
     ensures { IfOk result (λ c. app_of c ≡ whview_app) }
 {
     let planning = planning_command(alloc)?;
     let with_night = planning.subcommand(night_command(alloc)?)?;
-    let replay = input_command(
-        alloc,
-        "replay",
-        "Goes through a schedule of events and prints the reply to each. Reads the catalogue, the data, the changes and the strategy of each night, and the schedule.",
-        notes::REPLAY,
-    )?;
-    with_night.subcommand(replay)
+    with_night.subcommand(replay_command(alloc)?)
 }
 
 /// The program with its commands that read no data.
 fn planning_command<'a>(alloc: Global) -> Result<Command<'a>, AllocError>
-    ensures { IfOk result (λ c. app_of c ≡ planning_app) }
+    ensures { IfOk result (λ c. app_of c ≡ program_of (take 3 table)) }
 {
     let whview = bare_command(alloc)?;
     let with_check = with_command(
@@ -49,7 +44,7 @@ fn planning_command<'a>(alloc: Global) -> Result<Command<'a>, AllocError>
 
 /// The program before it has its commands.
 fn bare_command<'a>(alloc: Global) -> Result<Command<'a>, AllocError>
-    ensures { IfOk result (λ c. app_of c ≡ with_commands (new_app (codes "whview"))) }
+    ensures { IfOk result (λ c. app_of c ≡ program_of []) }
 {
     // The words come without the program's name, and usage texts show it.
     let bare = Command::new(alloc, "whview").no_binary_name(true);
@@ -70,7 +65,7 @@ fn with_command<'a>(
     about: &'a str,
     notes: &'a str,
 ) -> Result<Command<'a>, AllocError>
-    ensures { IfOk result (λ c. app_of c ≡ with_subcommand (app_of whview.entry) (command_app name.entry.now).top) }
+    ensures { IfOk result (λ c. app_of c ≡ with_subcommand (app_of whview.entry) (command_of name.entry.now priced).top) }
 {
     let command = command(alloc, name, about, notes)?;
     whview.subcommand(command)
@@ -83,7 +78,7 @@ fn command<'a>(
     about: &'a str,
     notes: &'a str,
 ) -> Result<Command<'a>, AllocError>
-    ensures shape { IfOk result (λ c. app_of c ≡ command_app name.entry.now) }
+    ensures shape { IfOk result (λ c. app_of c ≡ command_of name.entry.now priced) }
     ensures local { IfOk result (λ c. (out-Command c).has_globals ≡ false) }
 {
     let comp_cost = cost_option(
@@ -104,7 +99,7 @@ fn command<'a>(
 
 /// The command that plans, with an option for its budget besides.
 fn plan_command<'a>(alloc: Global) -> Result<Command<'a>, AllocError>
-    ensures shape { IfOk result (λ c. app_of c ≡ plan_app) }
+    ensures shape { IfOk result (λ c. app_of c ≡ command_of (codes "plan") (options_of (codes "plan"))) }
     ensures local { IfOk result (λ c. (out-Command c).has_globals ≡ false) }
 {
     let plan = command(
@@ -118,7 +113,7 @@ fn plan_command<'a>(alloc: Global) -> Result<Command<'a>, AllocError>
 
 /// The command that carries a night out, with options for its workers and readers.
 fn seats_command<'a>(alloc: Global) -> Result<Command<'a>, AllocError>
-    ensures shape { IfOk result (λ c. app_of c ≡ seats_app) }
+    ensures shape { IfOk result (λ c. app_of c ≡ command_of (codes "night") (take 2 (options_of (codes "night")))) }
     ensures local { IfOk result (λ c. (out-Command c).has_globals ≡ false) }
 {
     let workers = number_option(
@@ -144,9 +139,10 @@ fn seats_command<'a>(alloc: Global) -> Result<Command<'a>, AllocError>
     with_workers.arg(readers)
 }
 
-/// The same, with options for the rows of a page, for what is printed and for the file of the input besides.
+/// The command `night`: its options for workers and readers, for the rows of a page, for what is printed, and for the input's file and
+/// length.
 fn night_command<'a>(alloc: Global) -> Result<Command<'a>, AllocError>
-    ensures shape { IfOk result (λ c. app_of c ≡ night_app) }
+    ensures shape { IfOk result (λ c. app_of c ≡ command_of (codes "night") (options_of (codes "night"))) }
     ensures local { IfOk result (λ c. (out-Command c).has_globals ≡ false) }
 {
     let page_keys = number_option(
@@ -159,26 +155,27 @@ fn night_command<'a>(alloc: Global) -> Result<Command<'a>, AllocError>
     let seats = seats_command(alloc)?;
     let with_page_keys = seats.arg(page_keys)?;
     let with_print = with_page_keys.arg(print_option(alloc))?;
-    with_print.arg(input_option(alloc))
+    let with_input = with_print.arg(input_option(alloc))?;
+    with_input.arg(most_option(alloc))
 }
 
-/// A command of this name, with an option for the file of the input alone.
-fn input_command<'a>(
-    alloc: Global,
-    name: &'a str,
-    about: &'a str,
-    notes: &'a str,
-) -> Result<Command<'a>, AllocError>
-    ensures shape { IfOk result (λ c. app_of c ≡ input_app name.entry.now) }
+/// The command `replay`: its options for the input's file and length.
+fn replay_command<'a>(alloc: Global) -> Result<Command<'a>, AllocError>
+    ensures shape { IfOk result (λ c. app_of c ≡ command_of (codes "replay") (options_of (codes "replay"))) }
     ensures local { IfOk result (λ c. (out-Command c).has_globals ≡ false) }
 {
-    let named = Command::new(alloc, name).about(about).after_help(notes);
-    named.arg(input_option(alloc))
+    let named = Command::new(alloc, "replay")
+        .about(
+            "Goes through a schedule of events and prints the reply to each. Reads the catalogue, the data, the changes and the strategy of each night, and the schedule.",
+        )
+        .after_help(notes::REPLAY);
+    let with_input = named.arg(input_option(alloc))?;
+    with_input.arg(most_option(alloc))
 }
 
 /// The option for a cost.
 fn cost_option<'a>(alloc: Global, name: &'a str, help: &'a str) -> Arg<'a>
-    ensures rule { rule_of result ≡ cost_rule name.entry.now }
+    ensures rule { rule_of result ≡ rule_for (name.entry.now, Amount 1 1000000 1) }
     ensures local { result.global ≡ false }
 {
     Arg::new(alloc, name)
@@ -190,7 +187,7 @@ fn cost_option<'a>(alloc: Global, name: &'a str, help: &'a str) -> Arg<'a>
 
 /// The option for a number from `low` to `high`.
 fn number_option<'a>(alloc: Global, name: &'a str, low: u64, high: u64, help: &'a str) -> Arg<'a>
-    ensures rule { rule_of result ≡ number_rule name.entry.now low high }
+    ensures rule { rule_of result ≡ rule_for (name.entry.now, Number low high low) }
     ensures local { result.global ≡ false }
 {
     Arg::new(alloc, name)
@@ -202,7 +199,7 @@ fn number_option<'a>(alloc: Global, name: &'a str, low: u64, high: u64, help: &'
 
 /// The option for the budget of a search.
 fn budget_option<'a>(alloc: Global) -> Arg<'a>
-    ensures rule { rule_of result ≡ budget_rule }
+    ensures rule { rule_of result ≡ rule_for (codes "budget", Amount 1 9223372036854775807 1000000) }
     ensures local { result.global ≡ false }
 {
     Arg::new(alloc, "budget")
@@ -216,7 +213,7 @@ fn budget_option<'a>(alloc: Global) -> Arg<'a>
 
 /// The option for what is printed of a night.
 fn print_option<'a>(alloc: Global) -> Arg<'a>
-    ensures rule { rule_of result ≡ print_rule }
+    ensures rule { rule_of result ≡ rule_for (codes "print", Print) }
     ensures local { result.global ≡ false }
 {
     // Its word is judged once all words are taken: a parser of names would hold a reference, which no definition can name.
@@ -226,9 +223,23 @@ fn print_option<'a>(alloc: Global) -> Arg<'a>
         .help("What is printed of the derived views: tables or changes [default: tables]")
 }
 
+/// The option for how long the input may be.
+fn most_option<'a>(alloc: Global) -> Arg<'a>
+    ensures rule { rule_of result ≡ rule_for (codes "most", Number 1 1099511627776 usual_limit) }
+    ensures local { result.global ≡ false }
+{
+    Arg::new(alloc, "most")
+        .long("most")
+        .value_name("BYTES")
+        .help(
+            "The most bytes that the input may have, 1 to 1,099,511,627,776 [default: 67,108,864]",
+        )
+        .value_parser(ValueParser::Unsigned(1, 1_099_511_627_776))
+}
+
 /// The option for the file of the input.
 fn input_option<'a>(alloc: Global) -> Arg<'a>
-    ensures rule { rule_of result ≡ input_rule }
+    ensures rule { rule_of result ≡ rule_for (codes "input", File) }
     ensures local { result.global ≡ false }
 {
     Arg::new(alloc, "input")

@@ -1,4 +1,4 @@
-//! Why a command line asks for nothing that can be done.
+//! Names why a command line asks for nothing that can be done.
 
 ghost use Rattle.std.specs.Prelude.{◌≡◌, ◌⊎◌, option_map};
 ghost use Rattle.clap.specs.Words.{kind_of};
@@ -11,19 +11,19 @@ use clap::Error;
 use clap::error::ErrorKind;
 use std::alloc::{AllocError, Global};
 
-/// Why a command line asks for nothing that can be done, with the text for the user.
+/// The reasons for which a command line asks for nothing that can be done, with the text for the user.
 #[derive(Drop)]
 pub enum CommandFault {
-    /// Help is asked for; its text.
+    /// Help is asked for, and this is its text.
     Help(String),
-    /// The words are no command line of this program; the text that says why.
+    /// The words are no command line of this program, and this text says why.
     Refused(String),
-    /// Memory ran out.
+    /// Memory was refused.
     Memory,
 }
 
 impl CommandFault {
-    /// The text to show, with its line ends; None where memory ran out.
+    /// Returns the text to show, with its line ends; `None` where memory was refused.
     pub fn text(&self) -> Option<&str>
         ensures { option_map (λ t. t.now) result ≡ text_of self.now }
     {
@@ -33,7 +33,7 @@ impl CommandFault {
         }
     }
 
-    /// What the program ends with.
+    /// Returns the status that the program ends with.
     pub fn status(&self) -> Status
         ensures { result ≡ status_of self.now }
     {
@@ -44,7 +44,7 @@ impl CommandFault {
         }
     }
 
-    /// The fault of a word that is not to be printed, or Memory where its text cannot be had.
+    /// Returns the fault of a word that is not to be printed, or Memory where its text cannot be had.
     pub(crate) fn unprintable(alloc: Global, word: &str) -> CommandFault
         ensures { (result ≡ CommandFault.Memory) ⊎ (status_of result ≡ status_of_kind InvalidValue) }
     {
@@ -56,7 +56,7 @@ impl CommandFault {
         }
     }
 
-    /// The fault of an error of `clap`, or Memory where its text cannot be had.
+    /// Returns the fault of an error of `clap`, or Memory where its text cannot be had.
     pub(crate) fn of(alloc: Global, error: &Error) -> CommandFault
         ensures { (result ≡ CommandFault.Memory)
             ⊎ (status_of result ≡ status_of_kind (kind_of error.now)) }

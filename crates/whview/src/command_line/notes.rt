@@ -1,6 +1,6 @@
-//! What stands at the end of each help: the statuses of the command, and an example.
+//! Holds what stands at the end of each help: the statuses of the command, and an example.
 
-/// Of the program.
+/// The end of the program's help.
 pub const PROGRAM: &str =
     "Each command reads a bundle: one text of several parts, each of which begins with a line like
 @catalogue. 'whview COMMAND --help' has the command's options and statuses.
@@ -10,7 +10,7 @@ Where no words are given, the first line of standard input has them, without --i
 Example:
   whview night --input examples/night_shop.bundle";
 
-/// Of `check`.
+/// The end of the help of `check`.
 pub const CHECK: &str = "Ends with:
   0  the strategy is correct
   1  it breaks a rule
@@ -22,7 +22,7 @@ pub const CHECK: &str = "Ends with:
 Example:
   whview check --comp-cost 2 --input examples/one_way_check.bundle";
 
-/// Of `plan`.
+/// The end of the help of `plan`.
 pub const PLAN: &str = "Ends with:
   0  there is a plan
   2  these words are not taken
@@ -33,7 +33,7 @@ pub const PLAN: &str = "Ends with:
 Example:
   whview plan --budget 5000 --input examples/plan_all.bundle";
 
-/// Of `certify`.
+/// The end of the help of `certify`.
 pub const CERTIFY: &str = "Ends with:
   0  the plan is certified
   1  it is rejected, or its strategy breaks a rule
@@ -45,7 +45,7 @@ pub const CERTIFY: &str = "Ends with:
 Example:
   whview certify --input examples/certify_pairs.bundle";
 
-/// Of `night`.
+/// The end of the help of `night`.
 pub const NIGHT: &str = "Ends with:
   0  the night is carried out
   1  it is refused, or the strategy breaks a rule
@@ -57,7 +57,7 @@ pub const NIGHT: &str = "Ends with:
 Example:
   whview night --workers 4 --readers 2 --input examples/night_shop.bundle";
 
-/// Of `replay`.
+/// The end of the help of `replay`.
 pub const REPLAY: &str = "Ends with:
   0  each event has its reply, also where events are refused
   1  a strategy breaks a rule, or the opening contents are refused

@@ -1,4 +1,4 @@
-//! What a table has more, or with a sign less, than another.
+//! Finds what a table has more, or with a sign less, than another.
 
 ghost use Rattle.std.specs.Prelude.{◌≡◌, [], ◌-ℤ◌, List, ℤ, IfOk, MatchOption};
 ghost use Rattle.wh_row.specs.Bag.{IsTable, count, difference_of};
@@ -69,8 +69,8 @@ fn changed_rows<'a>(alloc: Global, new: &'a Bag, old: &'a Bag) -> Result<Records
     Ok(changed)
 }
 
-/// The change that makes a new table of an old one: in it each row counts what it counts in the new one less what it counts in the old
-/// one. Takes O((n + m) w) time for tables of n and m rows of w cells.
+/// Returns the change that makes a new table of an old one: in it each row counts what it counts in the new one less what it counts in the
+/// old one. Takes O((n + m) w) time for tables of n and m rows of w cells.
 pub(crate) fn difference<R: Threads + Sync>(
     budget: &ThreadBudget<'_, R>,
     new: &Bag,

@@ -1,4 +1,4 @@
-//! Rows of a bag of which the first is in hand.
+//! Goes through the rows of a bag with the first of them in hand.
 
 ghost use Rattle.std.specs.Prelude.{◌≡◌, [], ◌∷◌, drop, MatchOption};
 ghost use Rattle.wh_row.specs.Lent.{lent};
@@ -25,7 +25,7 @@ impl<'a> Model for Front<'a> {
 }
 
 impl<'a> Front<'a> {
-    /// These rows.
+    /// Takes these rows.
     pub(crate) fn new(rows: Rows<'a>) -> Self
         ensures { result ≡ rows.entry }
     {
@@ -34,7 +34,7 @@ impl<'a> Front<'a> {
         Front { first, rest }
     }
 
-    /// The first of them, with its count.
+    /// Returns the first of them, with its count.
     pub(crate) fn first(&self) -> Option<(&'a [i64], i64)>
         ensures { MatchOption result (self.now ≡ []) (λ e. self.now ≡ lent e ∷ drop 1 self.now) }
     {

@@ -1,4 +1,4 @@
-//! What is printed of a night.
+//! Writes what is printed of a night.
 
 ghost use Rattle.std.specs.Prelude.{◌≡◌, ◌++◌, ℕ, codes, decimal, drop, flat_map, length, map, sum_by, IfOk, OnOk};
 ghost use Rattle.wh_text_catalogue.specs.Definitions.{shown_view};
@@ -13,7 +13,7 @@ use std::alloc::{AllocError, Global};
 use std::thread::Threads;
 use wh_carry::{CarryFault, Report};
 use wh_dag::Shape;
-use wh_load::{Dict, Names, WrittenView, write_expression, write_table};
+use wh_load::{ChunkedText, Dict, Names, WrittenView, write_expression, write_table};
 use wh_night::Served;
 use wh_row::Bag;
 use wh_strategy::Expression;
@@ -103,33 +103,33 @@ pub(crate) struct Printing<'p, R: Threads + Sync> {
 /// Appends these rows of a derived view, written as a table is, under what they are and its name; nothing of a base view.
 fn append_view<R: Threads + Sync>(
     printing: &Printing<'_, R>,
-    out: &mut Vec<u8>,
+    out: &mut ChunkedText,
     word: &[u8],
     name: &str,
     view: &WrittenView,
     rows: &Bag,
 ) -> Result<(), AllocError>
-    ensures { OnOk result (out.new.items ≡ out.old.items ++ view_text word.now printing.now.texts.now name.now (shown_view view.now) rows.now) }
+    ensures { OnOk result (out.new ≡ out.old ++ view_text word.now printing.now.texts.now name.now (shown_view view.now) rows.now) }
 {
     if view.definition.is_none() {
         return Ok(());
     }
     out.extend_from_slice(word)?;
     out.extend_from_slice(name.as_bytes())?;
-    out.push(b'\n')?;
+    out.extend_from_slice(b"\n")?;
     write_table(printing.budget, out, &view.columns, rows, printing.texts)
 }
 
 /// Appends these rows of the derived views, which are their new tables or their changes.
 fn append_views<R: Threads + Sync>(
     printing: &Printing<'_, R>,
-    out: &mut Vec<u8>,
+    out: &mut ChunkedText,
     word: &[u8],
     rows: &[Bag],
 ) -> Result<(), AllocError>
     requires views { length printing.now.views.now ≡ length printing.now.shape.now.children }
     requires rows { length rows.now ≡ length printing.now.shape.now.children }
-    ensures { OnOk result (out.new.items ≡ out.old.items ++ views_text word.now printing.now.texts.now printing.now.shape.now.names 0 (map shown_view printing.now.views.now) (bag_at rows.now)) }
+    ensures { OnOk result (out.new ≡ out.old ++ views_text word.now printing.now.texts.now printing.now.shape.now.names 0 (map shown_view printing.now.views.now) (bag_at rows.now)) }
 {
     let shape = printing.shape;
     let views = printing.views;
@@ -149,14 +149,14 @@ fn append_views<R: Threads + Sync>(
 /// Appends what is shown of the derived views.
 fn append_shown<R: Threads + Sync>(
     printing: &Printing<'_, R>,
-    out: &mut Vec<u8>,
+    out: &mut ChunkedText,
     tables: &[Bag],
     shown: &Shown,
 ) -> Result<(), AllocError>
     requires views { length printing.now.views.now ≡ length printing.now.shape.now.children }
     requires tables { length tables.now ≡ length printing.now.shape.now.children }
     requires changes { IsShownWhole printing.now.shape.now shown.now }
-    ensures { OnOk result (out.new.items ≡ out.old.items ++ shown_text shown.now printing.now.texts.now printing.now.shape.now.names (map shown_view printing.now.views.now) tables.now) }
+    ensures { OnOk result (out.new ≡ out.old ++ shown_text shown.now printing.now.texts.now printing.now.shape.now.names (map shown_view printing.now.views.now) tables.now) }
 {
     match shown {
         Shown::NewTables => append_views(printing, out, b"view ", tables),
@@ -187,29 +187,32 @@ fn append_readers(alloc: Global, out: &mut Vec<u8>, rows: &[usize]) -> Result<()
     Ok(())
 }
 
-/// What is printed of a night that was carried out, by several threads where much is.
+/// Returns what is printed of a night that was carried out, by several threads where much is.
 pub(crate) fn carried_text<R: Threads + Sync>(
     printing: &Printing<'_, R>,
     carried: &Served,
     shown: &Shown,
-) -> Result<Vec<u8>, AllocError>
+) -> Result<ChunkedText, AllocError>
     requires version { carried.now.report.version ≡ 1 }
     requires views { length printing.now.views.now ≡ length printing.now.shape.now.children }
     requires tables { length carried.now.tables.items ≡ length printing.now.shape.now.children }
     requires changes { IsShownWhole printing.now.shape.now shown.now }
-    ensures { IfOk result (λ text. text.items ≡ (report_text printing.now.shape.now.names carried.now.report.steps.items
+    ensures { IfOk result (λ text. text ≡ (report_text printing.now.shape.now.names carried.now.report.steps.items
         ++ shown_text shown.now printing.now.texts.now printing.now.shape.now.names (map shown_view printing.now.views.now) carried.now.tables.items) ++ readers_text 0 carried.now.rows.items) }
 {
     let alloc = printing.budget.alloc;
     let names = Names::of(alloc, printing.shape)?;
-    let mut text = Vec::new(alloc);
-    append_report(alloc, &mut text, &names, &carried.report)?;
+    let mut steps = Vec::new(alloc);
+    append_report(alloc, &mut steps, &names, &carried.report)?;
+    let mut text = ChunkedText::of(steps);
     append_shown(printing, &mut text, &carried.tables, shown)?;
-    append_readers(alloc, &mut text, &carried.rows)?;
+    let mut readers = Vec::new(alloc);
+    append_readers(alloc, &mut readers, &carried.rows)?;
+    text.append(readers)?;
     Ok(text)
 }
 
-/// What is printed of a night that was refused.
+/// Returns what is printed of a night that was refused.
 pub(crate) fn refused_text(
     alloc: Global,
     shape: &Shape,

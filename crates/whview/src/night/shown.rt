@@ -1,4 +1,4 @@
-//! What is shown of the derived views of a night that was carried out: their new tables, or their changes.
+//! Keeps what is shown of the derived views of a night that was carried out: their new tables, or their changes.
 
 ghost use Rattle.std.specs.Prelude.{◌≡◌, ◌≢◌, ℕ, None, length, map, IfOk};
 ghost use Rattle.wh_maint.specs.Comp.{bag_at};
@@ -13,12 +13,12 @@ use wh_load::WrittenView;
 use wh_row::Bag;
 use wh_threads::ThreadBudget;
 
-/// What is shown of the derived views.
+/// The tables or the changes that are shown of the derived views.
 #[derive(Drop)]
 pub enum Shown {
-    /// Their new tables.
+    /// The new tables of the derived views.
     NewTables,
-    /// Their changes: a bag for each view. What stands in the place of a base view is not shown.
+    /// The changes of the derived views: a bag for each view. What stands in the place of a base view is not shown.
     ChangesOf(Vec<Bag>),
 }
 
@@ -32,7 +32,7 @@ fn copy_of(alloc: Global, view: &WrittenView, table: &Bag) -> Result<Bag, AllocE
     table.copy(alloc).map_err(|_| AllocError)
 }
 
-/// Copies of the derived views' tables, in the places of their views.
+/// Makes copies of the derived views' tables, in the places of their views.
 pub(crate) fn copies(
     alloc: Global,
     views: &[WrittenView],
@@ -67,7 +67,7 @@ fn change_of<R: Threads + Sync>(
     difference(budget, new, old)
 }
 
-/// The changes of the derived views from their old tables to their new ones, in the places of their views.
+/// Returns the changes of the derived views from their old tables to their new ones, in the places of their views.
 pub(crate) fn changes<R: Threads + Sync>(
     budget: &ThreadBudget<'_, R>,
     views: &[WrittenView],

@@ -1,4 +1,4 @@
-//! What is printed of a machine's replies.
+//! Writes what is printed of a machine's replies.
 
 ghost use Rattle.std.specs.Prelude.{◌≡◌, ◌++◌, decimal, flat_map, IfOk, OnOk};
 ghost use Rattle.whview.specs.ReplyText.{cause_name, cell_text, entry_text, expired_text, page_text, refusal_text, replies_text, reply_line, reply_text};
@@ -157,7 +157,7 @@ fn append_line(alloc: Global, out: &mut Vec<u8>, reply: &Reply) -> Result<(), Al
     Ok(())
 }
 
-/// What is printed of these replies: a line each.
+/// Returns what is printed of these replies: a line each.
 pub(crate) fn replies_text(alloc: Global, replies: &[Reply]) -> Result<Vec<u8>, AllocError>
     ensures { IfOk result (λ text. text.items ≡ replies_text replies.now) }
 {

@@ -1,11 +1,12 @@
 // Tables that several threads write have the text that one thread writes.
 
 use super::columns_of;
+use crate::texts::cases::chunked_bytes;
 use std::alloc::{AllocError, Global};
 use std::process::Abort;
 use std::test::Fail;
 use std::thread::Threads;
-use wh_load::{Column, Dict, write_table};
+use wh_load::{ChunkedText, Column, Dict, write_table};
 use wh_row::{Bag, Records};
 use wh_threads::ThreadBudget;
 
@@ -31,7 +32,7 @@ fn drawn(alloc: Global, rows: usize) -> Result<Records, AllocError> {
 fn words(alloc: Global) -> Result<Dict, AllocError> {
     let mut dict = Dict::new(alloc);
     for word in &WORDS {
-        let _ = dict.number(alloc, word)?;
+        let _ = dict.intern(alloc, word)?;
     }
     Ok(dict)
 }
@@ -43,10 +44,10 @@ fn appended<R: Threads + Sync>(
     bag: &Bag,
     dict: &Dict,
 ) -> Result<Vec<u8>, AllocError> {
-    let mut out = Vec::new(budget.alloc);
-    out.push(b'>')?;
+    let mut out = ChunkedText::new(budget.alloc);
+    out.extend_from_slice(b">")?;
     write_table(budget, &mut out, columns, bag, dict)?;
-    Ok(out)
+    chunked_bytes(budget.alloc, &out)
 }
 
 /// Asserts that up to four threads append what one thread appends.

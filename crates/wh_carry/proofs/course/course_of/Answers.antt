@@ -5,7 +5,7 @@ use Rattle.wh_maint.specs.Comp.{bag_at}
 use Rattle.wh_carry.specs.Kept.{kept}
 use Rattle.wh_carry.specs.Course.{HasRefusal}
 use Rattle.wh_carry.specs.Night.{Night}
-use Rattle.wh_carry.specs.Standing.{place_behind}
+use Rattle.wh_carry.specs.Stages.{place_behind}
 use Rattle.wh_carry.specs.Inner.Standing.{StandsAt}
 use Rattle.wh_carry.proofs.CourseEnds.{last_tables}
 use Rattle.wh_carry.proofs.Parts.{stages_in, stands_first}

@@ -6,7 +6,7 @@ use Rattle.wh_carry.specs.declared.course.Part.{Part}
 use Rattle.wh_carry.specs.Night.{Night}
 use Rattle.wh_carry.specs.Legs.{legs_of}
 use Rattle.wh_carry.specs.Course.{AreParts}
-use Rattle.wh_carry.specs.Standing.{place_behind}
+use Rattle.wh_carry.specs.Stages.{place_behind}
 use Rattle.wh_carry.specs.Inner.Standing.{StandsAt, legs_at}
 use Rattle.wh_carry.proofs.course.through.Given as goal
 

@@ -2,7 +2,7 @@ use Rattle.std.proofs.Common.{refl, ap, ◌∙◌}
 use Rattle.std.specs.Prelude.{is_none}
 use Rattle.std.specs.List.{list_all}
 use Rattle.wh_carry.specs.Kept.{kept}
-use Rattle.wh_carry.specs.Standing.{place_behind}
+use Rattle.wh_carry.specs.Stages.{place_behind}
 use Rattle.wh_carry.specs.Inner.Standing.{IsWaveAt}
 use Rattle.wh_carry.proofs.Parts.{wave_at, wave_goes}
 use Rattle.wh_carry.proofs.course.wave_part.Goals as goal

@@ -5,8 +5,8 @@ use Rattle.wh_maint.specs.Refused.{SumsTogetherFit}
 use Rattle.wh_maint.proofs.BothSums.{on_ok, all_opened, column_more}
 use Rattle.wh_maint.proofs.taken.+take_columns_in.Goals as goal
 
-pub take_in-requires : goal.take_in-requires
-take_in-requires t c =
+pub absorb-requires : goal.absorb-requires
+absorb-requires t c =
     let first = c.in-Some.first.now in
     let other = c.in-Some-split_first_mut.other.now in
     subst (λ (b : Bag). SumsTogetherFit first b) (sym c.replace.ensures.value)
@@ -29,6 +29,6 @@ returns-clause-sums t c =
     let rest = c.in-Some.rest.now in
     let others = c.in-Some-split_first_mut.others.now in
     on_ok c.take_columns_in.result (c.take_columns_in.new.sums ≡ merged rest others) _
-    (column_more first other c.take_in.new.sums rest others c.args.sums.now c.args.others.now c.take_columns_in.new.sums c.in-Some.ensures.cases.0 c.in-Some-split_first_mut.ensures.cases.0
-    (c.in_ok-take_in.ensures.sum ∙ ap (sum_of first) c.replace.ensures.value))
+    (column_more first other c.absorb.new.sums rest others c.args.sums.now c.args.others.now c.take_columns_in.new.sums c.in-Some.ensures.cases.0 c.in-Some-split_first_mut.ensures.cases.0
+    (c.in_ok-absorb.ensures.sum ∙ ap (sum_of first) c.replace.ensures.value))
     c.take_columns_in.ensures.sums

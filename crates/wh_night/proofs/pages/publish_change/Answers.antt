@@ -35,6 +35,7 @@ loop-row-preserved g c =
     ap (λ ps. ps ++ rest) page ∙ append_assoc kept (f e ∷ []) rest ∙ ap (λ es. kept ++ map f es) (sym it) in
     record {
       home = c.in_ok-make_room.ensures.home ∙ c.loop-row.invariant.home;
+      refused_ends = c.in_ok-make_room.ensures.refused_ends ∙ c.loop-row.invariant.refused_ends;
       few =
           let room = c.in_ok-make_room.ensures.room in
           let old = plain_length c.make_room.new.page.items in

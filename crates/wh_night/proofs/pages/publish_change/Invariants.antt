@@ -11,6 +11,7 @@ abbrev pub invariant-loop-row : goal.invariant-loop-row
 invariant-loop-row g l =
     record {
       home : g.P.Publish.home l.writer ≡ g.P.Publish.home l.fn.writer;
+      refused_ends : g.P.Publish.refused_ends l.writer ≡ g.P.Publish.refused_ends l.fn.writer;
       few : length l.page.items ≤ l.pages.keys;
       told : (done : List Counted) × (g.P.Publish.kept l.writer ≡ goes_out (g.P.Publish.kept l.fn.writer) (map (Writes l.view) done) None)
           × (done ++ pages_of l.pages.keys (plain l.page.items ++ map (λ e. (e.0, count l.table e.0)) l.row-iterator) ≡ pages_of l.pages.keys (map (λ e. (e.0, count l.table e.0)) (written l.change)));

@@ -2,7 +2,8 @@ use Rattle.std.proofs.Common.{◌≡◌, sym, ap, subst, ◌∙◌, ◌++◌, �
 use Rattle.std.specs.Prelude.{IfSome}
 use Rattle.wh_carry.specs.Kept.{kept}
 use Rattle.wh_carry.specs.declared.stages.Stage.TheVariants as stage
-use Rattle.wh_carry.specs.Standing.{IsStageIn, place_behind}
+use Rattle.wh_carry.specs.Stages.{place_behind}
+use Rattle.wh_carry.specs.Standing.{IsStageIn}
 use Rattle.wh_night.specs.Inner.Underway.{CanPublish, IsAt, night_given}
 use Rattle.wh_night.proofs.Outs.{if_err, on_four, on_ok}
 use Rattle.wh_night.proofs.StageByStage.{inst_goes, inst_stops, its_wave, wave_goes, wave_stops}

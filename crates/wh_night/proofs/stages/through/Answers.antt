@@ -5,7 +5,7 @@ use Rattle.wh_carry.specs.declared.stages.Stage.{Stage}
 use Rattle.wh_carry.specs.Kept.{kept}
 use Rattle.wh_carry.proofs.HandedOn.{handed_on}
 use Rattle.wh_carry.proofs.StageLaws.{lists_have_one_stages}
-use Rattle.wh_carry.specs.Standing.{place_behind}
+use Rattle.wh_carry.specs.Stages.{place_behind}
 use Rattle.wh_carry.proofs.CourseWaves.{split_at, take_all, take_next}
 use Rattle.wh_night.specs.Inner.Underway.{IsAt, night_given}
 use Rattle.wh_night.proofs.Taken.{can_publish}

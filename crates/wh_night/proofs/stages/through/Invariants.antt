@@ -1,7 +1,7 @@
 use Rattle.std.proofs.Common.{◌≡◌, take}
 use Rattle.wh_carry.specs.Kept.{kept, HaveParts, CanFinish}
 use Rattle.wh_carry.specs.Waves.{stages_of}
-use Rattle.wh_carry.specs.Standing.{place_behind}
+use Rattle.wh_carry.specs.Stages.{place_behind}
 use Rattle.wh_night.specs.Inner.Underway.{Given, IsAt, night_given}
 use Rattle.wh_night.proofs.stages.through.Given as goal
 

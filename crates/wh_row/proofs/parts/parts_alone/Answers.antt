@@ -15,7 +15,7 @@ loop-records-preserved c =
     let front = joined (take i parts) in
     let is : item ≡ get_or parts i item = c.records-item.is in
     record {
-      bag = told c.take_in.result c.in_ok-ok.field-0 c.in_ok-ok.ensures.value c.take_in.ensures.ok
+      bag = told c.absorb.result c.in_ok-ok.field-0 c.in_ok-ok.ensures.value c.absorb.ensures.ok
           ∙ (λ k. sum_of (c.loop-records.invariant.bag k) (c.in_ok-bag.ensures.bag k))
           ∙ both_parts front item
           ∙ ap (λ (es : Counted). bag_of (front ++ es)) is

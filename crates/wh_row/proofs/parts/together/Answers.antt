@@ -22,9 +22,9 @@ loop-bag-preserved c =
     let at = c.loop-bag in
     let steps : into_iter_items at.bag-iterator ≡ c.in-Some.bag ∷ into_iter_items c.next.new.self = c.in-Some.ensures.steps.0 in
     let here : c.in-Some.bag ≡ Some c.in_ok-bag.field-0 = c.in_ok-bag.was in
-    let taken : c.take_in.new.self ≡ sum_of at.all c.in_ok-bag.field-0 = told c.take_in.result c.in_ok-ok.field-0 c.in_ok-ok.ensures.value c.take_in.ensures.ok in
+    let taken : c.absorb.new.self ≡ sum_of at.all c.in_ok-bag.field-0 = told c.absorb.result c.in_ok-ok.field-0 c.in_ok-ok.ensures.value c.absorb.ensures.ok in
     record {
-      bag = λ lists are. bag_next at.yielded at.all c.in_ok-bag.field-0 c.take_in.new.self at.invariant.bag taken lists (subst (λ (bag : Option Bag). AreBagsOf lists (at.yielded ++ bag ∷ [])) here are);
+      bag = λ lists are. bag_next at.yielded at.all c.in_ok-bag.field-0 c.absorb.new.self at.invariant.bag taken lists (subst (λ (bag : Option Bag). AreBagsOf lists (at.yielded ++ bag ∷ [])) here are);
       some = All-push IsSome at.yielded c.in-Some.bag at.invariant.some (ap is_some here);
       every = append_assoc at.yielded (c.in-Some.bag ∷ []) _ ∙ rw (← steps) at.invariant.every;
       left = omega (arith, ap length steps, c.in-Some.ensures.steps.1, at.invariant.left);

@@ -1,13 +1,16 @@
-use Rattle.std.proofs.Common.{ap, ◌∙◌, refl}
+use Rattle.std.proofs.Common.{sym, subst, IfOk}
 use Rattle.std.specs.Fn.{FnReturnsAt}
-use Rattle.rayon.proofs.ListFacts.{IfOk-then, AllZip-weaken}
-use Rattle.rayon.proofs.ToStd.{slice-AllZip}
+use Rattle.std.specs.List.{All}
+use Rattle.wh_threads.specs.Inner.Drawn.{AreDrawn}
+use Rattle.wh_threads.proofs.DrawnLaws.{all_answered}
 use Rattle.wh_threads.proofs.ThreadBudget.each.Goals as goal
 
-pub returns-clause-answers : goal.returns-clause-answers
-returns-clause-answers g c =
-    let slice = ap (λ it. it.slice.now) c.with_min_len.ensures.base ∙ c.par_iter.ensures in
-    IfOk-then c.collect.result _ _ c.collect.ensures (λ v h.
+pub in_order-requires-clause-drawn : goal.in_order-requires-clause-drawn
+in_order-requires-clause-drawn g c =
+    let h = c.in_ok-drawn.ensures in
     let chain = rw (c.map.ensures.base, c.map.ensures.f) at h.1 in
-    rw h.2 (slice-AllZip chain.0 c.args.parts.now (chain.1 ∙ slice) (FnReturnsAt g.F.Fn c.args.work) h.0
-    (AllZip-weaken _ _ (λ lent answer met. record { shown = lent; shows = refl; says = record { met = met } }) chain.0 h.0 chain.2)))
+    subst (All (λ each. IfOk each (λ done. AreDrawn (FnReturnsAt g.F.Fn c.args.work) c.args.parts.now done.items))) (sym h.2)
+    (all_answered _ (λ each. IfOk each (λ done. AreDrawn (FnReturnsAt g.F.Fn c.args.work) c.args.parts.now done.items)) (λ hand answer met. met) chain.0 h.0 chain.2)
+
+pub returns-clause-answers : goal.returns-clause-answers
+returns-clause-answers g c = c.in_order.ensures

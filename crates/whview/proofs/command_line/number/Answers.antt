@@ -1,30 +1,30 @@
-use Rattle.std.proofs.Common.{◌∙◌, arith, ap, Option}
-use Rattle.std.specs.Option.{option_map_or}
+use Rattle.std.proofs.Common.{◌≡◌, ◌∙◌, arith, ap, Option}
 use Rattle.clap.specs.Words.{Text, found_of}
 use Rattle.clap.proofs.WalkLemmas.{first_value-rows}
-use Rattle.whview.specs.CommandLine.{number_of}
+use Rattle.whview.specs.CommandLine.{Number, OfNumber, worth}
 use Rattle.whview.proofs.NumberTexts.{found_within}
 use Rattle.whview.proofs.command_line.number.Goals as goal
 
 pub unreachable-requires : goal.unreachable-requires
 unreachable-requires c =
-    let is = found_within c.args.low c.args.high (found_of c.args.options.now) c.args.name.now c.in-Some.text.now c.requires.taken c.in-Some.ensures in
+    let is = found_within c.args.low c.args.high c.args.default (found_of c.args.options.now) c.args.name.now c.in-Some.text.now c.requires.taken c.in-Some.ensures in
     c.in-Err.ensures.value.0 (is.0, is.1)
 
 pub returns-in-Ok-clause-value : goal.returns-in-Ok-clause-value
 returns-in-Ok-clause-value c =
-    c.in-Ok.ensures.value.0.1 ∙ ap (λ (o : Option Text). option_map_or number_of o c.args.default) (c.in-Some.ensures ∙ first_value-rows (found_of c.args.options.now) c.args.name.now)
+    ap OfNumber c.in-Ok.ensures.value.0.1
+    ∙ ap (worth (Number c.args.low c.args.high c.args.default)) (c.in-Some.ensures ∙ first_value-rows (found_of c.args.options.now) c.args.name.now)
 
 pub returns-in-Ok-clause-least : goal.returns-in-Ok-clause-least
 returns-in-Ok-clause-least c =
-    let is = found_within c.args.low c.args.high (found_of c.args.options.now) c.args.name.now c.in-Some.text.now c.requires.taken c.in-Some.ensures in
+    let is = found_within c.args.low c.args.high c.args.default (found_of c.args.options.now) c.args.name.now c.in-Some.text.now c.requires.taken c.in-Some.ensures in
     omega (arith, is.2, c.in-Ok.ensures.value.0.1)
 
 pub returns-in-Ok-clause-most : goal.returns-in-Ok-clause-most
 returns-in-Ok-clause-most c =
-    let is = found_within c.args.low c.args.high (found_of c.args.options.now) c.args.name.now c.in-Some.text.now c.requires.taken c.in-Some.ensures in
+    let is = found_within c.args.low c.args.high c.args.default (found_of c.args.options.now) c.args.name.now c.in-Some.text.now c.requires.taken c.in-Some.ensures in
     omega (arith, is.3, c.in-Ok.ensures.value.0.1)
 
 pub returns-in-None-clause-value : goal.returns-in-None-clause-value
 returns-in-None-clause-value c =
-    ap (λ (o : Option Text). option_map_or number_of o c.args.default) (c.in-None.ensures ∙ first_value-rows (found_of c.args.options.now) c.args.name.now)
+    ap (worth (Number c.args.low c.args.high c.args.default)) (c.in-None.ensures ∙ first_value-rows (found_of c.args.options.now) c.args.name.now)

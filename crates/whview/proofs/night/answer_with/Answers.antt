@@ -11,7 +11,7 @@ pub returns : goal.returns
 returns g c =
     let opening = shown_opening c.args.input.opening in
     let given = shown_given c.args.input.given in
-    subst (λ (v : Views). IsNightTold (record { shape = v; opening = opening; given = given }) c.args.how.print c.args.how.readers c.in_ok-text.text.items (status_number c.status-status.result))
+    subst (λ (v : Views). IsNightTold (record { shape = v; opening = opening; given = given }) c.args.how.print c.args.how.readers c.in_ok-text.text (status_number c.status-status.result))
     (ap (λ (k : CatalogOf). k.views) c.in_ok-catalog.ensures)
-    (night_told (record { shape = c.in_ok-catalog.catalog.views; opening = opening; given = given }) c.args.how.print c.args.how.readers c.in_ok-outcome.outcome c.in_ok-text.text.items c.status-status.result
+    (night_told (record { shape = c.in_ok-catalog.catalog.views; opening = opening; given = given }) c.args.how.print c.args.how.readers c.in_ok-outcome.outcome c.in_ok-text.text c.status-status.result
     c.in_ok-outcome.ensures.decided (c.in_ok-text.ensures ∙ ap (λ (v : Views). text_of v.names c.in_ok-outcome.outcome) c.shape.ensures.views) c.status-status.ensures)

@@ -9,12 +9,12 @@ use Rattle.whview.proofs.program.words_answer.Goals as goal
 pub returns-in-Some-clause-answer : goal.returns-in-Some-clause-answer
 returns-in-Some-clause-answer g c =
     if_ok c.file_answer.result _ _ c.file_answer.ensures
-    (λ a holds. from_file (texts c.args.words.now) _ _ a.text.items (status_number a.status) c.in-Ok.asked c.in-Some.path.now (record { taken = c.in-Ok.ensures.fails; asked = c.in-Ok.ensures.asked }) c.in-Some.ensures holds)
+    (λ a holds. from_file (texts c.args.words.now) _ _ a.text (status_number a.status) c.in-Ok.asked c.in-Some.path.now (record { taken = c.in-Ok.ensures.fails; asked = c.in-Ok.ensures.asked }) c.in-Some.ensures holds)
 
 pub returns-in-None-clause-answer : goal.returns-in-None-clause-answer
 returns-in-None-clause-answer g c =
     if_ok c.read_answer.result _ _ c.read_answer.ensures
-    (λ a holds. from_reader (texts c.args.words.now) _ _ _ a.text.items (status_number a.status) c.in-Ok.asked (record { taken = c.in-Ok.ensures.fails; asked = c.in-Ok.ensures.asked }) c.in-None.ensures holds)
+    (λ a holds. from_reader (texts c.args.words.now) _ _ _ a.text (status_number a.status) c.in-Ok.asked (record { taken = c.in-Ok.ensures.fails; asked = c.in-Ok.ensures.asked }) c.in-None.ensures holds)
 
 pub returns-in-None-clause-unread : goal.returns-in-None-clause-unread
 returns-in-None-clause-unread g c not = absurd (not (c.in-Ok.asked, record { taken = c.in-Ok.ensures.fails; asked = c.in-Ok.ensures.asked }, sym c.in-None.ensures))

@@ -20,5 +20,5 @@ returns g c =
     let input = c.args.input in
     if_ok c.answer_over.result _ _ c.answer_over.ensures
     (λ a told. subst (λ (v : Views). IsReplayTold (record { shape = v; opening = shown_opening input.opening; nights = map shown_given input.nights.items; schedule = input.schedule })
-    a.text.items (status_number a.status))
+    a.text (status_number a.status))
     (ap (λ (k : CatalogOf). k.views) c.in_ok-catalog.ensures) told)

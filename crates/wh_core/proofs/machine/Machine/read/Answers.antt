@@ -3,13 +3,14 @@ use Rattle.std.specs.Prelude.{is_none, option_map, ◌==◌, ◌||◌, nat_lt}
 use Rattle.wh_store.specs.Pages.{Shown, page_of}
 use Rattle.wh_store.specs.Versions.{table_in, table_of, version}
 use Rattle.wh_store.specs.Windows.{kept_version, unexpired}
+use Rattle.wh_store.specs.Readers.{bookmark_after, goes_on}
 use Rattle.wh_core.specs.declared.event.Event.TheVariants as event
 use Rattle.wh_core.specs.declared.reply.Cause.TheVariants as cause
 use Rattle.wh_core.specs.declared.reply.Reply.TheVariants as reply
 use Rattle.wh_core.specs.declared.session.Seat.{Seat}
-use Rattle.wh_core.specs.Log.{SessionOf, bookmark_after, session}
+use Rattle.wh_core.specs.Log.{SessionOf, session}
 use Rattle.wh_core.specs.Nights.{published, versions}
-use Rattle.wh_core.specs.Replies.{IsReply, goes_on, more}
+use Rattle.wh_core.specs.Replies.{IsReply, more}
 use Rattle.wh_core.specs.Standing.{session_of}
 use Rattle.wh_core.proofs.Seats.{seat_set, seated, shown, turned, wrong_limit}
 use Rattle.wh_core.proofs.machine.Machine.read.Goals as goal

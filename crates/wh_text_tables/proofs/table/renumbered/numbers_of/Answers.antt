@@ -41,7 +41,7 @@ unfolding with_texts
 returns-in_err-push-clause-begins c =
     let texts = take c.loop-place.place c.args.texts.now in
     let own = c.text_at.result.now in
-    let all : c.number.new.self ≡ with_texts c.args.dict.now (texts ++ own ∷ []) = c.in_ok-number.ensures.texts ∙ ap (λ d. with_text d own) c.loop-place.invariant.0 ∙ sym (with_texts-append c.args.dict.now texts (own ∷ [])) in
+    let all : c.intern.new.self ≡ with_texts c.args.dict.now (texts ++ own ∷ []) = c.in_ok-number.ensures.texts ∙ ap (λ d. with_text d own) c.loop-place.invariant.0 ∙ sym (with_texts-append c.args.dict.now texts (own ∷ [])) in
     subst (BeginsWith c.args.dict.now) (sym all) (begins-texts c.args.dict.now (texts ++ own ∷ []))
 
 pub returns-clause-begins : goal.returns-clause-begins

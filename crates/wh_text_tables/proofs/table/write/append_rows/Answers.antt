@@ -1,4 +1,4 @@
-use Rattle.std.proofs.Common.{rules, ◌≡◌, ◌++◌, ◌∷◌, ◌∙◌, ap, append_assoc, map, ℤ, FitsSigned, to_z, of_z, to_z-of_z, sym}
+use Rattle.std.proofs.Common.{rules, ◌≡◌, ◌++◌, ◌∷◌, ◌∙◌, ap, map, ℤ, FitsSigned, to_z, of_z, to_z-of_z, sym}
 use Rattle.std.specs.Int.{w64}
 use Rattle.csv.specs.Writing.{default_writer, row_text}
 use Rattle.wh_row.specs.Row.{Row}
@@ -6,7 +6,6 @@ use Rattle.wh_row.specs.Weigh.{Counted}
 use Rattle.wh_text.specs.Columns.{kinds_of}
 use Rattle.wh_text_tables.specs.Inner.TableWritten.{rows_text}
 use Rattle.wh_text_tables.specs.TableWritten.{record_of}
-use Rattle.wh_text_tables.proofs.RowsText.{block-next}
 use Rattle.wh_text_tables.proofs.TableLines.{lines-next}
 use Rattle.wh_text_tables.proofs.table.write.append_rows.Goals as goal
 
@@ -20,14 +19,9 @@ loop-row-preserved c =
     let line = record_of c.args.dict.now (kinds_of c.args.columns.now) in
     let text = row_text default_writer (line e) in
     let out = c.loop-row.out.items in
-    let block = c.loop-row.block.items in
-    let written : c.write_row.new.out.items ≡ block ++ text = search rules in
-    let passed = block-next out block text c.pass_on.new.out.items c.pass_on.new.block.items (c.in_ok-pass_on.ensures.whole ∙ ap (λ b. out ++ b) written) in
-    let (more, begins) = c.loop-row.invariant.begins in
-    let (further, goes_on) = c.pass_on.ensures.begins in
+    let written : c.write_row.new.out.items ≡ out ++ text = search rules in
     record {
       next = search rules;
-      so_far = lines-next (row_text default_writer) (line e) (map line c.loop-row.row-iterator) (map line c.next.new.self) (out ++ block) (c.pass_on.new.out.items ++ c.pass_on.new.block.items) (c.args.out.now.items ++ rows_text c.args.columns.now c.args.dict.now c.args.rows)
-          (ap (λ (es : Counted). map line es) steps) passed c.loop-row.invariant.so_far;
-      begins = (more ++ further, goes_on ∙ ap (λ t. t ++ further) begins ∙ append_assoc c.args.out.now.items more further);
+      so_far = lines-next (row_text default_writer) (line e) (map line c.loop-row.row-iterator) (map line c.next.new.self) out c.write_row.new.out.items (c.args.out.now.items ++ rows_text c.args.columns.now c.args.dict.now c.args.rows)
+          (ap (λ (es : Counted). map line es) steps) written c.loop-row.invariant.so_far;
     }

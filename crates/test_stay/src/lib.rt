@@ -1,0 +1,9 @@
+//! Tests of a warehouse that stays, by public calls.
+#![tactic(auto)]
+
+#[cfg(test)]
+mod given;
+#[cfg(test)]
+mod nights;
+#[cfg(test)]
+mod told;

@@ -1,0 +1,2 @@
+pub mod CommandGrammars
+pub mod HandedOut

@@ -1,0 +1,4 @@
+pub mod Standing
+pub mod Told
+pub mod Lives
+pub mod Inner

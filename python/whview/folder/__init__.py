@@ -1,0 +1,1 @@
+"""The commands of `whview folder`, a module each, and what they share."""

@@ -1,0 +1,1 @@
+"""What the commands are given of each engine."""

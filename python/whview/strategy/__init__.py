@@ -1,0 +1,1 @@
+"""Strategies, sizes and plans, read and written, and their rules."""

@@ -1,1 +1,0 @@
-"""What tools/cluster does: a warehouse on ClickHouse servers, whose versions are lists of slots."""

@@ -1,1 +1,0 @@
-"""What tools/try_cluster tries: nights on ClickHouse servers of its own."""

@@ -1,1 +1,0 @@
-"""The commands of tools/warehouse, a module each, and what they share."""

@@ -1,0 +1,1 @@
+"""What trials/run cluster tries: nights on ClickHouse servers of its own."""

@@ -1,0 +1,1 @@
+"""What is drawn: views, rows, nights, schedules, shops, and bundles that are changed at random."""

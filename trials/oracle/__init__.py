@@ -1,0 +1,1 @@
+"""What answers have to be, worked out by the rules alone."""

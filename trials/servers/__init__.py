@@ -1,0 +1,1 @@
+"""Servers and engines of the trials' own, and packages that are installed for them."""

@@ -1,0 +1,1 @@
+"""What trials/run tables carries out: nights by whview sql over tables as people have them."""
