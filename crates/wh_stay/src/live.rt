@@ -22,7 +22,7 @@ use std::thread::Threads;
 use wh_core::{Cause, Core, Event, MachineOptions, Reply};
 use wh_dag::Catalog;
 use wh_formula::{RowTest, RowValue};
-use wh_load::{GivenNight, LoadFault, Names};
+use wh_load::{Dict, GivenNight, LoadFault, Names, WrittenView};
 use wh_row::Bag;
 use wh_strategy::{CheckFault, check};
 use wh_threads::ThreadBudget;
@@ -89,6 +89,20 @@ impl<F: RowTest + Drop, G: RowValue + Drop> Live<F, G> {
         ensures { result.now ≡ (standing_of self.now).names }
     {
         &self.standing.names
+    }
+
+    /// Lends the views, in the order of their numbers: the columns of a page that is read of one.
+    pub fn views(&self) -> &[WrittenView]
+        ensures { map shown_view result.now ≡ (standing_of self.now).views }
+    {
+        &self.standing.views
+    }
+
+    /// Lends the texts that cells stand for, with those of a night that is open.
+    pub fn texts(&self) -> &Dict
+        ensures { result.now ≡ (standing_of self.now).texts }
+    {
+        &self.standing.texts
     }
 
     /// Reads the parts of a night, adds it behind the others and begins it. A night that does not begin, for whatever cause, is not added:

@@ -38,8 +38,9 @@ use Rattle.whview.specs.CheckOutput.{broken_text}
 use Rattle.whview.specs.Inner.FitNight.{AreReadTables}
 use Rattle.whview.specs.Inner.FitReplay.{AreChangesOf, AreJudgedRightly, IsFitForNights, IsJudgedRightly, IsNightsFault, IsReady}
 use Rattle.whview.specs.NightOutput.{refused_text}
-use Rattle.whview.specs.ReplayOutput.{AreCorrect, IsFirstBrokenNight, IsReplayTold, broken, event_of, is_memory, machine_of, night_of_machine, no_contents, replayed}
-use Rattle.whview.specs.ReplyText.{replies_text}
+use Rattle.wh_replies.specs.Events.{event_of}
+use Rattle.whview.specs.ReplayOutput.{AreCorrect, IsFirstBrokenNight, IsReplayTold, broken, is_memory, machine_of, night_of_machine, no_contents, replayed}
+use Rattle.wh_replies.specs.ReplyText.{replies_text}
 use Rattle.whview.proofs.NightDecided.{AreOpenedBy, are_contents, opened_by}
 use Rattle.whview.proofs.ReadRows.{read_bags, read_tables}
 

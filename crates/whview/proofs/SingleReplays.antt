@@ -32,7 +32,7 @@ use Rattle.whview.specs.CheckOutput.{IsFaultShown, broken_text}
 use Rattle.whview.specs.NightOutput.{graph_over, refused_text}
 use Rattle.whview.specs.OneAnswer.{AreSame, OneReplayOutput}
 use Rattle.whview.specs.ReplayOutput.{AreCorrect, IsFirstBrokenNight, IsReplayTold, broken, events_of, is_memory, no_contents, replayed, setup_of}
-use Rattle.whview.specs.ReplyText.{replies_text}
+use Rattle.wh_replies.specs.ReplyText.{replies_text}
 use Rattle.wh_maint.specs.Comp.{bag_at}
 
 -- ---- one run

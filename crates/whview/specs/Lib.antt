@@ -10,6 +10,5 @@ pub mod Output
 pub mod PlanCertified
 pub mod PlanOutput
 pub mod ReplayOutput
-pub mod ReplyText
 pub mod Status
 pub mod Inner

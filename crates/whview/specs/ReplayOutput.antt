@@ -1,5 +1,5 @@
 -- What `replay` prints for the bytes of a bundle, and the status that it ends with.
-use Rattle.std.specs.Prelude.{◌≡◌, ◌⊎◌, ℕ, List, [], ◌∷◌, length, map, Bool, true, false, MatchResult, unwrap_or}
+use Rattle.std.specs.Prelude.{◌≡◌, ◌⊎◌, ℕ, List, [], ◌∷◌, length, map, Bool, true, false, MatchResult}
 use Rattle.std.specs.List.{list_any}
 use Rattle.wh_dag.specs.Catalog.{CatalogOf}
 use Rattle.wh_row.specs.Bag.{Bag}
@@ -9,7 +9,6 @@ use Rattle.wh_core.specs.Laws.{IsSetup}
 use Rattle.wh_core.specs.Nights.{GivenNight as NightOfMachine, Setup}
 use Rattle.wh_core.specs.Replies.{IsLegalRun}
 use Rattle.wh_core.specs.declared.event.Event.{Event}
-use Rattle.wh_core.specs.declared.event.Event.TheVariants as event
 use Rattle.wh_core.specs.declared.reply.Cause.TheVariants as cause
 use Rattle.wh_core.specs.declared.reply.Reply.{Reply}
 use Rattle.wh_core.specs.declared.reply.Reply.TheVariants as reply
@@ -20,31 +19,18 @@ use Rattle.wh_maint.specs.Definition.{graph_of}
 use Rattle.wh_maint.specs.Opening.{HasNoContents}
 use Rattle.wh_maint.specs.declared.fault.MaintFault.{MaintFault}
 use Rattle.wh_text_lines.specs.ScheduleText.{ScheduleOf}
-use Rattle.wh_text_lines.specs.declared.schedule.event.ScheduledEvent.{ScheduledEvent}
-use Rattle.wh_text_lines.specs.declared.schedule.event.ScheduledEvent.TheVariants as scheduled
 use Rattle.wh_strategy.specs.Rules.{IsCorrect, IsFirstBroken}
 use Rattle.wh_strategy.specs.declared.rule.Rule.{Rule}
 use Rattle.whview.specs.CheckOutput.{IsFaultShown, broken_text}
 use Rattle.whview.specs.NightOutput.{AreOpened, refused_text}
-use Rattle.whview.specs.ReplyText.{replies_text}
+use Rattle.wh_replies.specs.Events.{event_of}
+use Rattle.wh_replies.specs.ReplyText.{replies_text}
 
 -- ---- what a machine is given
 
 -- a night that was read, as a machine takes it
 abbrev pub night_of_machine : GivenNight → NightOfMachine
 night_of_machine night = record { changes = night.changes; list = night.list }
-
--- an event of the schedule over so many views; a name that is no view's stands for the number that comes after them
-abbrev pub event_of : ℕ → ScheduledEvent → Event
-event_of views scheduled.Begin = event.Begin
-event_of views (scheduled.Take worker) = event.Take worker
-event_of views (scheduled.Done worker) = event.Done worker
-event_of views scheduled.Page = event.PageIn
-event_of views scheduled.Commit = event.Commit
-event_of views scheduled.GiveUp = event.GiveUp
-event_of views (scheduled.Open desk) = event.Open desk
-event_of views (scheduled.Read desk view limit) = event.Read desk (unwrap_or view views) limit
-event_of views (scheduled.Close desk) = event.Close desk
 
 -- a machine over this catalogue, of the schedule's size, from these contents; it keeps as many versions as the schedule says
 abbrev pub machine_of : CatalogOf → ScheduleOf → List Bag → List NightOfMachine → Setup

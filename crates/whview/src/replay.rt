@@ -11,18 +11,16 @@ ghost use Rattle.wh_core.specs.Standing.{AreJudged, nights_of};
 ghost use Rattle.wh_formula.specs.Expr.{fits as fits_expr};
 ghost use Rattle.wh_formula.specs.Pred.{fits as fits_pred};
 ghost use Rattle.wh_load.specs.ReadingShown.{shown_given, shown_opening, shown_replay};
+ghost use Rattle.wh_replies.specs.Events.{event_of};
 ghost use Rattle.whview.specs.Inner.FitNight.{AreReadTables};
 ghost use Rattle.whview.specs.Inner.FitReplay.{AreChangesOf, AreJudgedRightly, IsFitReplay, IsNightsFault, IsReady};
-ghost use Rattle.whview.specs.ReplayOutput.{AreCorrect, IsReplayOutput, IsReplayTold, event_of, is_memory, machine_of, night_of_machine};
+ghost use Rattle.whview.specs.ReplayOutput.{AreCorrect, IsReplayOutput, IsReplayTold, is_memory, machine_of, night_of_machine};
 ghost use Rattle.whview.specs.Status.{status_number};
 ghost use Rattle.whview.specs.Inner.StoredClosures.{AnswersTests, AnswersValues};
-
-mod reply;
 
 use crate::answer::{Answer, broken_text, cause_text};
 use crate::catalogue::catalog_with;
 use crate::status::Status;
-use reply::replies_text;
 use std::alloc::{AllocError, Global};
 use std::thread::Threads;
 use wh_core::{Cause, Core, Event, MachineOptions, Reply};
@@ -32,6 +30,7 @@ use wh_load::{
     ChunkedText, GivenNight, Opening, ReplayInput, Schedule, ScheduledEvent, read_for_replay,
 };
 use wh_maint::opening_contents;
+use wh_replies::{event_of, replies_text};
 use wh_row::Bag;
 use wh_strategy::{CheckFault, Correct, check};
 use wh_threads::ThreadBudget;
@@ -56,25 +55,6 @@ fn judged(
         };
     }
     Ok(judged)
-}
-
-/// The event of a schedule over so many views.
-fn event_of(views: usize, event: &ScheduledEvent) -> Event
-    ensures { result ≡ event_of views event.now }
-{
-    match event {
-        ScheduledEvent::Begin => Event::Begin,
-        ScheduledEvent::Take { worker } => Event::Take(*worker),
-        ScheduledEvent::Done { worker } => Event::Done(*worker),
-        ScheduledEvent::Page => Event::PageIn,
-        ScheduledEvent::Commit => Event::Commit,
-        ScheduledEvent::GiveUp => Event::GiveUp,
-        ScheduledEvent::Open { desk } => Event::Open(*desk),
-        ScheduledEvent::Read { desk, view, limit } => {
-            Event::Read(*desk, view.unwrap_or(views), *limit)
-        }
-        ScheduledEvent::Close { desk } => Event::Close(*desk),
-    }
 }
 
 /// The events of a schedule over so many views.

@@ -5,7 +5,7 @@ use Rattle.wh_load.specs.ReadingShown.{shown_given, shown_opening}
 use Rattle.whview.specs.Inner.FitReplay.{AreJudgedRightly, IsNightsFault}
 use Rattle.whview.specs.NightOutput.{refused_text}
 use Rattle.whview.specs.ReplayOutput.{AreCorrect}
-use Rattle.whview.specs.ReplyText.{replies_text}
+use Rattle.wh_replies.specs.ReplyText.{replies_text}
 use Rattle.whview.specs.Status.{status_number}
 use Rattle.whview.proofs.ReplayDecided.{is_ready, judged_over, told_broken, told_no_contents, told_replayed}
 use Rattle.whview.proofs.replay.answer_over.Goals as goal

@@ -1,5 +1,5 @@
 use Rattle.std.proofs.Common.{◌≡◌, map, take}
-use Rattle.whview.specs.ReplayOutput.{event_of}
+use Rattle.wh_replies.specs.Events.{event_of}
 use Rattle.whview.proofs.replay.events_of.Given as goal
 
 abbrev pub invariant-loop-event : goal.invariant-loop-event

@@ -3,7 +3,8 @@ use Rattle.wh_core.specs.Headline.{ComesTrue}
 use Rattle.wh_core.specs.Replies.{IsLegalRun}
 use Rattle.wh_core.specs.Standing.{StandsWith, nights_of}
 use Rattle.wh_dag.specs.Shape.{Views}
-use Rattle.whview.specs.ReplayOutput.{event_of, machine_of}
+use Rattle.wh_replies.specs.Events.{event_of}
+use Rattle.whview.specs.ReplayOutput.{machine_of}
 use Rattle.whview.proofs.ReplayDecided.{of_schedule, ready_setup}
 use Rattle.whview.proofs.replay.replies_to.Goals as goal
 

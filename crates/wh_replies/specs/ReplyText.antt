@@ -1,4 +1,4 @@
--- The line that `replay` prints of a reply.
+-- The line that is printed of a reply.
 use Rattle.std.specs.Prelude.{ℕ, ℤ, List, [], ◌∷◌, ◌++◌, codes, cond, decimal, flat_map, Bool, true, false}
 use Rattle.std.specs.Fmt.{signed_decimal}
 use Rattle.wh_core.specs.declared.reply.Cause.{Cause}
@@ -7,7 +7,10 @@ use Rattle.wh_core.specs.declared.reply.Reply.{Reply}
 use Rattle.wh_core.specs.declared.reply.Reply.TheVariants as reply
 use Rattle.wh_row.specs.Row.{Row}
 use Rattle.wh_store.specs.Pages.{Shown}
-use Rattle.whview.specs.CheckOutput.{line}
+
+-- a text and the LF that ends its line
+abbrev pub line : List ℕ → List ℕ
+line text = text ++ 10 ∷ []
 
 -- ---- pages
 

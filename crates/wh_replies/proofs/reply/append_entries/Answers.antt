@@ -4,8 +4,8 @@ use Rattle.std.specs.Prelude.{flat_map}
 use mir.Syntax.{w64}
 use Rattle.wh_row.specs.Row.{Row}
 use Rattle.wh_row.specs.Weigh.{Counted}
-use Rattle.whview.specs.ReplyText.{entry_text}
-use Rattle.whview.proofs.replay.reply.append_entries.Goals as goal
+use Rattle.wh_replies.specs.ReplyText.{entry_text}
+use Rattle.wh_replies.proofs.reply.append_entries.Goals as goal
 
 -- the text of one record more
 one_more : (es : Counted) (place : ℕ) (e : Row × ℤ) → slice_get es place ≡ Some e → flat_map entry_text (take place es) ++ entry_text e ≡ flat_map entry_text (take (place + 1) es)

@@ -1,7 +1,7 @@
 //! Writes what is printed of a machine's replies.
 
 ghost use Rattle.std.specs.Prelude.{◌≡◌, ◌++◌, decimal, flat_map, IfOk, OnOk};
-ghost use Rattle.whview.specs.ReplyText.{cause_name, cell_text, entry_text, expired_text, page_text, refusal_text, replies_text, reply_line, reply_text};
+ghost use Rattle.wh_replies.specs.ReplyText.{cause_name, cell_text, entry_text, expired_text, page_text, refusal_text, replies_text, reply_line, reply_text};
 
 use std::alloc::{AllocError, Global};
 use wh_core::{Cause, Reply};
@@ -148,8 +148,9 @@ fn append_reply(alloc: Global, out: &mut Vec<u8>, reply: &Reply) -> Result<(), A
     }
 }
 
-/// Appends the line of a reply.
-fn append_line(alloc: Global, out: &mut Vec<u8>, reply: &Reply) -> Result<(), AllocError>
+/// Appends the line of a reply: its text, and the LF that ends it.
+/// Fails for want of memory; then nothing is said of what was appended.
+pub fn append_reply_line(alloc: Global, out: &mut Vec<u8>, reply: &Reply) -> Result<(), AllocError>
     ensures { OnOk result (out.new.items ≡ out.old.items ++ reply_line reply.now) }
 {
     append_reply(alloc, out, reply)?;
@@ -158,12 +159,13 @@ fn append_line(alloc: Global, out: &mut Vec<u8>, reply: &Reply) -> Result<(), Al
 }
 
 /// Returns what is printed of these replies: a line each.
-pub(crate) fn replies_text(alloc: Global, replies: &[Reply]) -> Result<Vec<u8>, AllocError>
+/// Fails for want of memory.
+pub fn replies_text(alloc: Global, replies: &[Reply]) -> Result<Vec<u8>, AllocError>
     ensures { IfOk result (λ text. text.items ≡ replies_text replies.now) }
 {
     let mut text = Vec::new(alloc);
     for reply in replies {
-        append_line(alloc, &mut text, reply)?;
+        append_reply_line(alloc, &mut text, reply)?;
     }
     Ok(text)
 }
