@@ -4,7 +4,7 @@ use Rattle.wh_core.specs.Laws.{IsSetup}
 use Rattle.wh_core.specs.Log.{Log}
 use Rattle.wh_core.specs.Nights.{Setup}
 use Rattle.wh_core.specs.Standing.{StandsWith}
-use Rattle.wh_dialogue.proofs.Talking.{IsAmidTalk}
+use Rattle.wh_dialogue.proofs.Turns.{IsAmidTalk}
 use Rattle.wh_stay.specs.Standing.{IsLive, core_of, standing_of}
 use Rattle.wh_dialogue.proofs.talking.talk.Given as goal
 
