@@ -1,1 +1,2 @@
 pub mod FirstForeign
+pub mod OpeningFrom
