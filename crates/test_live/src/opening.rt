@@ -62,11 +62,7 @@ texts none
 no strategy
 ",
     ),
-    (
-        SMALL,
-        "@strategy\n",
-        "views a\ntexts\n#,x\nstrategy\n",
-    ),
+    (SMALL, "@strategy\n", "views a\ntexts\n#,x\nstrategy\n"),
     (
         SMALL,
         "@data a\n#,x\n3,-7\n",
@@ -83,26 +79,46 @@ static FAULTS: [(&str, &str, &str); 22] = [
     (CATALOGUE, "@tables\n", "fault part tables"),
     // the catalogue that is missing
     ("", "", "fault part catalogue"),
-    ("", "@sizes\n@data a\nx\n@strategy\nfoo\n", "fault part catalogue"),
+    (
+        "",
+        "@sizes\n@data a\nx\n@strategy\nfoo\n",
+        "fault part catalogue",
+    ),
     // of the catalogue's text
     ("@catalogue\n=\n", "@changes a\n#,x,n\n", "fault toml"),
     (TWICE, "@sizes\n", "fault column x"),
     // the first part that no opening has
-    (CATALOGUE, "@changes a\n#,x,n\n1,one,1\n", "fault part changes"),
+    (
+        CATALOGUE,
+        "@changes a\n#,x,n\n1,one,1\n",
+        "fault part changes",
+    ),
     (CATALOGUE, "@data v\nx\none\n", "fault part data"),
     (CATALOGUE, "@data w\nx\none\n", "fault part data"),
     (CATALOGUE, "@sizes\n", "fault part sizes"),
     (CATALOGUE, "@plan\n", "fault part plan"),
     (CATALOGUE, "@schedule\n", "fault part schedule"),
     (CATALOGUE, "@sizes\n@changes a\n#,x,n\n", "fault part sizes"),
-    (CATALOGUE, "@data a\nx,n\none,b\n@changes a\n#,x,n\n", "fault part changes"),
+    (
+        CATALOGUE,
+        "@data a\nx,n\none,b\n@changes a\n#,x,n\n",
+        "fault part changes",
+    ),
     // of the tables, view by view
     (CATALOGUE, "@data a\nx,n\none,1\none,b\n", "fault number 3"),
-    (CATALOGUE, "@data b\nz\n@data a\nx,n\none,b\n", "fault number 2"),
+    (
+        CATALOGUE,
+        "@data b\nz\n@data a\nx,n\none,b\n",
+        "fault number 2",
+    ),
     (CATALOGUE, "@strategy\nfoo\n@data b\nz\n", "fault header"),
     // of the strategy's text
     (CATALOGUE, "@strategy\ninst a\nfoo\n", "fault strategy 2"),
-    (CATALOGUE, "@strategy\ninst w\n@data a\nx,n\none,1\n", "fault strategy 1"),
+    (
+        CATALOGUE,
+        "@strategy\ninst w\n@data a\nx,n\none,1\n",
+        "fault strategy 1",
+    ),
     (SMALL, "@strategy\n\ncomp v from a\n", "fault strategy 2"),
 ];
 
