@@ -32,16 +32,16 @@ asked_found n (scheduled.Read desk view limit) r is = refl
 asked_found n (scheduled.Close desk) r is = refl
 asked_found n e r is = cc
 
-carrying_found : (e : Event) (r : Reply) → CarriesOn e → finds_none e r ≡ false
-carrying_found _ r a_draw = refl
-carrying_found _ r a_done = refl
-carrying_found _ r a_page = refl
+carrying_found : (s : Setup) (log : Log) (e : Event) (r : Reply) → CarriesOn s log e r → finds_none e r ≡ false
+carrying_found s log _ _ (a_draw r busy none) = refl
+carrying_found s log _ _ (a_done r busy) = refl
+carrying_found s log _ _ (a_page r none ready) = refl
 
 -- a refusal leaves the log as it is
-pub refused_logged : (log : Log) (e : Event) (why : Cause) → CarriesOn e → logged log e (reply.Refused why) ≡ log
-refused_logged log _ why a_draw = refl
-refused_logged log _ why a_done = refl
-refused_logged log _ why a_page = refl
+pub refused_logged : (s : Setup) (log : Log) (e : Event) (r : Reply) (why : Cause) → CarriesOn s log e r → r ≡ reply.Refused why → logged log e r ≡ log
+refused_logged s log _ _ why (a_draw r busy none) is = ap (logged log (event.Take 0)) is
+refused_logged s log _ _ why (a_done r busy) is = ap (logged log (event.Done 0)) is
+refused_logged s log _ _ why (a_page r none ready) is = ap (logged log event.PageIn) is
 
 -- ---- what comes of a warehouse, and more
 
@@ -57,7 +57,7 @@ module _ (opening : Setup) where
       → Lives opening s log (events ++ es) (replies ++ rs)
   went_on s begun _ events _ replies _ h at_first = nothing_more s begun events replies h
   went_on s begun _ events _ replies _ h (one_more es rs log e r before carries is other) =
-      let lived = lives.answers s log (events ++ es) (replies ++ rs) e r (went_on s begun log events es replies rs h before) is (carrying_found e r carries) in
+      let lived = lives.answers s log (events ++ es) (replies ++ rs) e r (went_on s begun log events es replies rs h before) is (carrying_found s log e r carries) in
       subst (λ all. Lives opening s (logged log e r) all (replies ++ (rs ++ r ∷ []))) (append_assoc events es (e ∷ []))
       (subst (λ all. Lives opening s (logged log e r) ((events ++ es) ++ e ∷ []) all) (append_assoc replies rs (r ∷ [])) lived)
 
@@ -65,8 +65,8 @@ module _ (opening : Setup) where
       → Lives opening s log (events ++ es) (replies ++ rs)
   has_stopped s log events _ replies _ _ h (is_ready ready) = nothing_more s log events replies h
   has_stopped s log events _ replies _ _ h (is_refused e why carries is) =
-      subst (λ l. Lives opening s l (events ++ e ∷ []) (replies ++ reply.Refused why ∷ [])) (refused_logged log e why carries)
-      (lives.answers s log events replies e (reply.Refused why) h is (carrying_found e (reply.Refused why) carries))
+      subst (λ l. Lives opening s l (events ++ e ∷ []) (replies ++ reply.Refused why ∷ [])) (refused_logged s log e (reply.Refused why) why carries refl)
+      (lives.answers s log events replies e (reply.Refused why) h is (carrying_found s log e (reply.Refused why) carries))
 
   was_carried : (s : Setup) (begun log : Log) (events es : List Event) (replies rs : List Reply) (text : List ℕ) → Lives opening s begun events replies
       → IsCarried s begun es rs text log → Lives opening s log (events ++ es) (replies ++ rs)

@@ -75,7 +75,7 @@ module _ {F G : Type 0} (s : Setup) (log : Log) (before after : List ℕ) (was c
     -- it was refused
     pub refused : (why : Cause) → r ≡ reply.Refused why → CarriedIn s log before text core
     refused why is =
-        let carries = on.0 in
+        let carries = subst (CarriesOn s amid.log_then event) is on.0 in
         let said : IsReply s amid.log_then event (reply.Refused why) = subst (IsReply s amid.log_then event) is on.1 in
         record {
           events = amid.events ++ event ∷ [];
@@ -96,7 +96,7 @@ module _ {F G : Type 0} (s : Setup) (log : Log) (before after : List ℕ) (was c
           };
           printed = same ∙ ap (λ q. after ++ said_line q) is ∙ ap (λ t. t ++ said_line (reply.Refused why)) amid.printed
               ∙ append_assoc before (flat_map said_line amid.replies) (said_line (reply.Refused why));
-          stands = subst (λ l. StandsWith s l core) (ap (logged amid.log_then event) is ∙ refused_logged amid.log_then event why carries) on.2;
+          stands = subst (λ l. StandsWith s l core) (refused_logged s amid.log_then event r why on.0 is) on.2;
         }
 
     -- it was done

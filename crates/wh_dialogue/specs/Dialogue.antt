@@ -36,13 +36,13 @@ is_refusal _ = false
 -- a night is carried on from this log by these events, each replied so, and none refused
 pub data GoesOn (s : Setup) (begun : Log) : List Event → List Reply → Log → Type 0 where
   at_first : GoesOn s begun [] [] begun
-  one_more : (events : List Event) (replies : List Reply) (log : Log) (event : Event) (r : Reply) → GoesOn s begun events replies log → CarriesOn event
+  one_more : (events : List Event) (replies : List Reply) (log : Log) (event : Event) (r : Reply) → GoesOn s begun events replies log → CarriesOn s log event r
       → IsReply s log event r → is_refusal r ≡ false → GoesOn s begun (events ++ event ∷ []) (replies ++ r ∷ []) (logged log event r)
 
 -- after what was done, a night is carried on no further: nothing more is in turn, or an event that would carry it on is refused
 pub data Stops (s : Setup) (log : Log) : List Event → List Reply → List ℕ → Type 0 where
   is_ready : IsReady s log → Stops s log [] [] (line (codes "ready"))
-  is_refused : (event : Event) (why : Cause) → CarriesOn event → IsReply s log event (reply.Refused why)
+  is_refused : (event : Event) (why : Cause) → CarriesOn s log event (reply.Refused why) → IsReply s log event (reply.Refused why)
       → Stops s log (event ∷ []) (reply.Refused why ∷ []) (said_line (reply.Refused why))
 
 -- a night that has begun is carried on from this log: by these events and replies, of which this is printed, up to this log

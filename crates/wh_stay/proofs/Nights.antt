@@ -1,5 +1,5 @@
 -- What a night whose parts came leaves, from what its steps answer.
-use Rattle.std.proofs.Common.{◌≡◌, ◌≢◌, ◌⊎◌, ⊎_elim, ℕ, zero, suc, ◌<◌, List, [], ◌∷◌, length, map, Ok, Err, refl, sym, ap, subst, ◌∙◌, arith}
+use Rattle.std.proofs.Common.{◌≡◌, ◌≢◌, ◌⊎◌, ⊎_elim, true, false, ℕ, zero, suc, ◌<◌, List, [], ◌∷◌, length, Ok, Err, refl, sym, ap, subst, ◌∙◌, arith}
 use mathlib.Core.Logic.{inl, inr}
 use Rattle.std.specs.Prelude.{slice_index}
 use Rattle.wh_dag.specs.Catalog.{CatalogOf, IsCatalog}
@@ -10,7 +10,7 @@ use Rattle.wh_core.specs.Beginning.{IsBeginOf}
 use Rattle.wh_core.specs.Laws.{IsSetup}
 use Rattle.wh_core.specs.Log.{Log, Began}
 use Rattle.wh_core.specs.Nights.{GivenNight as NightOfMachine, Setup, with_nights}
-use Rattle.wh_core.specs.Replies.{IsMemory, IsReply}
+use Rattle.wh_core.specs.Replies.{IsReply}
 use Rattle.wh_core.specs.Standing.{StandsWith}
 use Rattle.wh_core.specs.declared.event.Event.TheVariants as event
 use Rattle.wh_core.specs.declared.reply.Cause.TheVariants as cause
@@ -21,7 +21,6 @@ use Rattle.wh_load.specs.ReadingNight.{AreReadRows, GivenNight, Rows}
 use Rattle.wh_strategy.specs.Rules.{IsCorrect, IsFirstBroken}
 use Rattle.wh_strategy.specs.declared.rule.Rule.{Rule}
 use Rattle.wh_text.specs.declared.fault.LoadFault.{LoadFault}
-use Rattle.wh_text.specs.declared.fault.LoadFault.TheVariants as LoadFault
 use Rattle.wh_text_catalogue.specs.Definitions.{ViewOf}
 use Rattle.wh_text_catalogue.specs.FormulaKinds.{Texts}
 use Rattle.wh_stay.specs.Inner.After.{standing_after}
@@ -137,3 +136,8 @@ module _ {F G : Type 0} (s : Setup) (log : Log) (w : StandingOf) (parts : List �
         has_replied r (subst (λ g. IsBeginOf s log g r) same said)
         (λ e. (subst (λ g. IsSetup (with_nights s (g ∷ []))) same (begun e).0, subst (λ g. StandsWith (with_nights s (g ∷ [])) (Began ∷ log) core) same (begun e).1))
         refused
+
+-- ---- truths
+
+pub false_true : false ≡ true → ⊥
+false_true e = cc

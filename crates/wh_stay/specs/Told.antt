@@ -59,13 +59,14 @@ pub record IsTold {F G : Type 0} (s : Setup) (log : Log) (w : StandingOf) (parts
 abbrev pub IsReady : Setup → Log → Type 0
 IsReady s log = IsReply s log (event.Take 0) (reply.Refused cause.NoJob) × IsReply s log event.PageIn (reply.Refused cause.NotReady)
 
--- the event carries a night on: the first worker draws a job or is done with it, or a page is put
-pub data CarriesOn : Event → Type 0 where
-  a_draw : CarriesOn (event.Take 0)
-  a_done : CarriesOn (event.Done 0)
-  a_page : CarriesOn event.PageIn
+-- the event that carries a night on after what was done, with its reply: the first worker draws a job; or it has one already, and is done with
+-- it; or it finds none, and a page is put
+pub data CarriesOn (s : Setup) (log : Log) : Event → Reply → Type 0 where
+  a_draw : (r : Reply) → r ≢ reply.Refused cause.Busy → r ≢ reply.Refused cause.NoJob → CarriesOn s log (event.Take 0) r
+  a_done : (r : Reply) → IsReply s log (event.Take 0) (reply.Refused cause.Busy) → CarriesOn s log (event.Done 0) r
+  a_page : (r : Reply) → IsReply s log (event.Take 0) (reply.Refused cause.NoJob) → r ≢ reply.Refused cause.NotReady → CarriesOn s log event.PageIn r
 
 -- the night was carried on by this event, which had this reply; where there is none, nothing more is in turn
 abbrev pub IsCarriedOn : {F G : Type 0} → Setup → Log → Option (Event × Reply) → Core F G → Type 0
 IsCarriedOn s log None core = IsReady s log × StandsWith s log core
-IsCarriedOn s log (Some pair) core = CarriesOn pair.0 × IsReply s log pair.0 pair.1 × StandsWith s (logged log pair.0 pair.1) core
+IsCarriedOn s log (Some pair) core = CarriesOn s log pair.0 pair.1 × IsReply s log pair.0 pair.1 × StandsWith s (logged log pair.0 pair.1) core

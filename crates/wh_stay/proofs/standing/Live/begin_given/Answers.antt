@@ -1,14 +1,13 @@
-use Rattle.std.proofs.Common.{◌≡◌, ◌∙◌, ap, subst, sym, ℕ, List}
+use Rattle.std.proofs.Common.{◌≡◌, ◌∙◌, ap, subst, sym, List}
 use Rattle.wh_core.specs.Standing.{catalog_of, given_of}
 use Rattle.wh_dag.specs.Catalog.{CatalogOf, IsCatalog}
 use Rattle.wh_dag.specs.Shape.{Views}
 use Rattle.wh_load.specs.ReadingNight.{ChangeRows}
 use Rattle.wh_load.specs.ReadingShown.{shown_given}
-use Rattle.wh_core.specs.Nights.{GivenNight as NightOfMachine}
 use Rattle.wh_strategy.specs.Rules.{IsCorrect, IsReason}
 use Rattle.wh_strategy.specs.declared.correct.CheckFault.TheVariants as check
 use Rattle.wh_strategy.specs.declared.expression.Expression.{Expression}
-use Rattle.wh_stay.specs.Standing.{core_of, standing_of}
+use Rattle.wh_stay.specs.Standing.{standing_of}
 use Rattle.wh_stay.specs.Told.{night_of_machine}
 use Rattle.wh_stay.proofs.Nights.{read_bags, told_broken, told_memory, told_replied}
 use Rattle.wh_stay.proofs.standing.Live.begin_given.Goals as goal
