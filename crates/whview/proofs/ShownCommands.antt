@@ -37,7 +37,9 @@ file_in (OfPrint what ∷ rest) = file_in rest
 
 -- the most bytes of the input
 abbrev pub limit_in : Shown → ℕ
-limit_in s = cond (bytes_eq s.0 (codes "night")) (number_at 5 s.1) (cond (bytes_eq s.0 (codes "replay")) (number_at 1 s.1) usual_limit)
+limit_in s =
+    cond (bytes_eq s.0 (codes "night")) (number_at 5 s.1)
+    (cond (bytes_eq s.0 (codes "replay")) (number_at 1 s.1) (cond (bytes_eq s.0 (codes "live")) (number_at 5 s.1) usual_limit))
 
 -- two commands that are asked for by the same words are shown alike
 pub shown_alike : (found : Option (Text × List Row)) (command other : Asked) → IsAsked found command → IsAsked found other → shown other ≡ shown command
