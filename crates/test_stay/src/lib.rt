@@ -6,4 +6,6 @@ mod given;
 #[cfg(test)]
 mod nights;
 #[cfg(test)]
+mod talks;
+#[cfg(test)]
 mod told;

@@ -1,3 +1,3 @@
 pub mod Legal
 pub mod Steps
-pub mod Talking
+pub mod Turns

@@ -12,8 +12,8 @@ use Rattle.wh_core.specs.declared.reply.Cause.{Cause}
 use Rattle.wh_core.specs.declared.reply.Reply.{Reply}
 use Rattle.wh_core.specs.declared.reply.Reply.TheVariants as reply
 use Rattle.wh_dialogue.specs.Said.{said_line, said_of, told_text}
-use Rattle.wh_dialogue.specs.declared.talk.TalkEnd.{TalkEnd}
-use Rattle.wh_dialogue.specs.declared.talk.TalkEnd.TheVariants as ends
+use Rattle.wh_dialogue.specs.declared.talking.TalkEnd.{TalkEnd}
+use Rattle.wh_dialogue.specs.declared.talking.TalkEnd.TheVariants as ends
 use Rattle.wh_live.specs.Commands.{Command, commands_of}
 use Rattle.wh_live.specs.Commands as command
 use Rattle.wh_live.specs.Requests.{is_asked}

@@ -9,7 +9,7 @@ mod answer;
 mod laws;
 mod night;
 mod page;
-mod talk;
+mod talking;
 
 pub use laws::dialogues_are_legal_runs;
-pub use talk::{TalkEnd, talk};
+pub use talking::{TalkEnd, talk};

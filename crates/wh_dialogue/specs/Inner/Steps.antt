@@ -10,8 +10,8 @@ use Rattle.wh_core.specs.declared.event.Event.{Event}
 use Rattle.wh_core.specs.declared.reply.Reply.{Reply}
 use Rattle.wh_core.specs.declared.warehouse.Core.{Core}
 use Rattle.wh_dialogue.specs.Dialogue.{IsAnswered, IsCarried}
-use Rattle.wh_dialogue.specs.declared.talk.TalkEnd.{TalkEnd}
-use Rattle.wh_dialogue.specs.declared.talk.TalkEnd.TheVariants as ends
+use Rattle.wh_dialogue.specs.declared.talking.TalkEnd.{TalkEnd}
+use Rattle.wh_dialogue.specs.declared.talking.TalkEnd.TheVariants as ends
 use Rattle.wh_live.specs.Commands.{Command, taken}
 use Rattle.wh_live.specs.Commands as command
 use Rattle.wh_stay.specs.Standing.{StandingOf, core_of, standing_of}

@@ -4,9 +4,9 @@ use Rattle.wh_core.specs.Laws.{IsSetup}
 use Rattle.wh_core.specs.Log.{Log}
 use Rattle.wh_core.specs.Nights.{Setup}
 use Rattle.wh_core.specs.Standing.{StandsWith}
-use Rattle.wh_dialogue.proofs.Talking.{IsAmidTalk}
+use Rattle.wh_dialogue.proofs.Turns.{IsAmidTalk}
 use Rattle.wh_stay.specs.Standing.{IsLive, core_of, standing_of}
-use Rattle.wh_dialogue.proofs.talk.talk.Given as goal
+use Rattle.wh_dialogue.proofs.talking.talk.Given as goal
 
 abbrev pub invariant-loop-turn : goal.invariant-loop-turn
 invariant-loop-turn g l = record {

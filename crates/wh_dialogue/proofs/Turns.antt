@@ -12,8 +12,8 @@ use Rattle.wh_core.specs.declared.reply.Reply.{Reply}
 use Rattle.wh_core.specs.declared.reply.Reply.TheVariants as reply
 use Rattle.wh_dialogue.specs.Dialogue.{AreAnswered, BeginsSo, Dialogue, IsAnswered, IsTalk, a_night, a_stranger, an_event, answers, no_night, opens, the_end, up_to_quit}
 use Rattle.wh_dialogue.specs.Inner.Steps.{EndsWith, IsAnsweredIn, IsLineAnswered, a_command, goes_on, no_command, quits}
-use Rattle.wh_dialogue.specs.declared.talk.TalkEnd.{TalkEnd}
-use Rattle.wh_dialogue.specs.declared.talk.TalkEnd.TheVariants as ends
+use Rattle.wh_dialogue.specs.declared.talking.TalkEnd.{TalkEnd}
+use Rattle.wh_dialogue.specs.declared.talking.TalkEnd.TheVariants as ends
 use Rattle.wh_live.specs.Commands.{Command, commands_below, commands_of, taken}
 use Rattle.wh_live.specs.Commands as command
 use Rattle.wh_live.specs.LinesRead.{FirstLines, HandsOut, IsFirstLine}
