@@ -8,8 +8,8 @@ use Rattle.wh_core.specs.Log.{Log}
 use Rattle.wh_core.specs.Nights.{Setup}
 use Rattle.wh_dag.specs.Catalog.{CatalogOf, IsCatalog}
 use Rattle.wh_dialogue.specs.Dialogue.{IsTalk}
-use Rattle.wh_dialogue.specs.declared.talk.TalkEnd.{TalkEnd}
-use Rattle.wh_dialogue.specs.declared.talk.TalkEnd.TheVariants as ends
+use Rattle.wh_dialogue.specs.declared.talking.TalkEnd.{TalkEnd}
+use Rattle.wh_dialogue.specs.declared.talking.TalkEnd.TheVariants as ends
 use Rattle.wh_load.specs.ReadingNight.{GivenNight, Opening}
 use Rattle.wh_maint.specs.Asked.{AreBags}
 use Rattle.wh_maint.specs.Comp.{bag_at}

@@ -6,8 +6,8 @@ use Rattle.wh_core.specs.Laws.{IsSetup}
 use Rattle.wh_core.specs.Log.{Log}
 use Rattle.wh_core.specs.Nights.{Setup}
 use Rattle.wh_dialogue.specs.Dialogue.{IsTalk}
-use Rattle.wh_dialogue.specs.declared.talk.TalkEnd.{TalkEnd}
-use Rattle.wh_dialogue.specs.declared.talk.TalkEnd.TheVariants as ends
+use Rattle.wh_dialogue.specs.declared.talking.TalkEnd.{TalkEnd}
+use Rattle.wh_dialogue.specs.declared.talking.TalkEnd.TheVariants as ends
 use Rattle.wh_maint.specs.Comp.{bag_at}
 use Rattle.wh_maint.specs.Definition.{graph_of}
 use Rattle.wh_maint.specs.Opening.{HasNoContents}

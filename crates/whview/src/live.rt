@@ -1,11 +1,12 @@
 //! Does the command `live`: opens a warehouse from the bytes of a file, and answers commands for as long as they come.
 
-ghost use Rattle.std.specs.Prelude.{◌≡◌, ◌≢◌, ◌≤◌, ◌<◌, ◌↔◌, ◌×◌, ◌⊎◌, IfErr, IfOk, IsTrue, length, map, option_map, vec_len};
+ghost use Rattle.std.specs.Prelude.{◌≡◌, ◌≢◌, ◌≤◌, ◌<◌, ◌↔◌, ◌⊎◌, IfErr, IfOk, IsTrue, length, map, option_map, vec_len};
 ghost use Rattle.std.specs.Io.KnownBytes.{Appends};
 ghost use Rattle.wh_core.specs.Laws.{IsSetup};
 ghost use Rattle.wh_core.specs.Log.{Log};
 ghost use Rattle.wh_core.specs.Nights.{Setup};
 ghost use Rattle.wh_core.specs.Standing.{StandsWith};
+ghost use Rattle.wh_dag.specs.Catalog.{IsCatalog};
 ghost use Rattle.wh_formula.specs.Expr.{fits as fits_expr};
 ghost use Rattle.wh_formula.specs.Pred.{fits as fits_pred};
 ghost use Rattle.wh_load.specs.ReadingShown.{shown_opening};
@@ -50,12 +51,7 @@ pub struct ToOpen<'a> {
 }
 
 /// All bytes of a file, or the fault of an input where they cannot be had.
-fn bytes_of<E: Files>(
-    rt: &E,
-    alloc: Global,
-    path: &str,
-    limit: usize,
-) -> Result<Vec<u8>, LoadFault>
+fn bytes_of<E: Files>(rt: &E, alloc: Global, path: &str, limit: usize) -> Result<Vec<u8>, LoadFault>
     ensures within { IfOk result (λ bytes. vec_len bytes ≤ limit) }
     ensures err { IfErr result (λ f. (f ≡ LoadFault.Read) ⊎ ((f ≡ LoadFault.TooLong) ⊎ (f ≡ LoadFault.Memory))) }
 {
@@ -81,16 +77,14 @@ fn opening_of<E: Files + Threads + Sync>(
     ensures fit { IfOk result IsReadOpening }
     ensures err { IfErr result (λ f. f ≢ LoadFault.Memory → IsFileFault limit f) }
 {
-    let bytes = bytes_of(budget.rt, budget.alloc, path, limit)?;
-    read_opening(budget, &bytes)
+    match bytes_of(budget.rt, budget.alloc, path, limit) {
+        Ok(bytes) => read_opening(budget, &bytes),
+        Err(fault) => Err(fault),
+    }
 }
 
 /// The answer where the base that was read has no contents.
-fn without_contents(
-    alloc: Global,
-    shape: &Shape,
-    fault: &MaintFault,
-) -> Result<Answer, AllocError>
+fn without_contents(alloc: Global, shape: &Shape, fault: &MaintFault) -> Result<Answer, AllocError>
     ensures text { IfOk result (λ a. a.text ≡ refused_text shape.now.names fault.now) }
     ensures status { IfOk result (λ a. a.status ≡ Status.Negative) }
     ensures told { IfOk result (λ a. fault.now ≢ MaintFault.Memory) }
@@ -140,6 +134,7 @@ fn talk_over<F: RowTest + Drop, G: RowValue + Drop, R: Threads + Sync, S: Source
     input: &mut S,
     out: &mut W,
 ) -> u8
+    requires catalogue { IsCatalog catalog }
     requires shown { catalog ≡ catalog_of catalog.views (map shown_view opening.views.items) }
     requires tables { AreReadTables catalog opening.tables.items }
     ensures told { result ≢ 5 → IsOpenedAnswer how (record { shape = catalog.views; opening = shown_opening opening; strategy = option_map (λ own. own.items) strategy })

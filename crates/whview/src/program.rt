@@ -31,11 +31,7 @@ use wh_stream::{CountedStream, Sink, Source};
 fn input_wanted(alloc: Global) -> Result<Answer, AllocError>
     ensures { IfOk result (λ a. IsInputWanted a.text (status_number a.status)) }
 {
-    Answer::of(
-        alloc,
-        "error: `live` needs `--input`\n",
-        Status::Words,
-    )
+    Answer::of(alloc, "error: `live` needs `--input`\n", Status::Words)
 }
 
 /// What a command answers for the bytes of a bundle.

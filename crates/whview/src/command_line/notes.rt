@@ -72,7 +72,8 @@ Example:
   whview replay --input examples/replay_two_nights.bundle";
 
 /// The end of the help of `live`.
-pub const LIVE: &str = "Reads commands from standard input: 'night' and the night's parts up to '@end', 'commit', 'giveup',
+pub const LIVE: &str =
+    "Reads commands from standard input: 'night' and the night's parts up to '@end', 'commit', 'giveup',
 'open D', 'read D VIEW LIMIT', 'close D' and 'quit'.
 
 Ends with:

@@ -1,0 +1,25 @@
+use Rattle.std.proofs.Common.{ap, map, sym, subst}
+use Rattle.wh_dag.specs.Catalog.{CatalogOf}
+use Rattle.wh_load.specs.ReadingShown.{shown_opening}
+use Rattle.std.specs.Prelude.{option_map}
+use Rattle.whview.proofs.Opened.{opened_none, opened_setup, opened_talk}
+use Rattle.whview.proofs.live.talk_over.Goals as goal
+
+pub new-requires-clause-setup : goal.new-requires-clause-setup
+new-requires-clause-setup g c κs within =
+    opened_setup c.args.catalog c.requires.catalogue c.args.opening.tables.items c.in-Ok.contents.items c.requires.tables c.in-Ok.ensures.bags c.in-Ok.ensures.contents c.in-Ok.ensures.valued c.args.how
+
+pub new-requires-clause-widths : goal.new-requires-clause-widths
+new-requires-clause-widths g c κs within = sym (ap (λ (k : CatalogOf). k.widths) c.requires.shown)
+
+pub returns-in-Err-clause-told : goal.returns-in-Err-clause-told
+returns-in-Err-clause-told g c written =
+    let told = c.tell.ensures.told written in
+    opened_none c.args.how c.args.catalog (shown_opening c.args.opening) (option_map (λ own. own.items) c.args.strategy) c.requires.shown
+    c.in-Err.fault c.without_contents-answer.result _ _ _ _ c.tell.result c.in-Err.ensures.refused
+    c.without_contents-answer.ensures.text c.without_contents-answer.ensures.status c.without_contents-answer.ensures.told told.0 told.1 told.2
+
+pub returns-in-Ok-clause-told : goal.returns-in-Ok-clause-told
+returns-in-Ok-clause-told g c written =
+    opened_talk c.args.how c.args.catalog (shown_opening c.args.opening) (option_map (λ own. own.items) c.args.strategy) c.requires.shown
+    c.in-Ok.contents.items _ _ _ _ _ c.talk_to_end.result c.in-Ok.ensures.bags.each c.in-Ok.ensures.contents c.in-Ok.ensures.valued _ (c.talk_to_end.ensures.told written _ _ _ _)
