@@ -50,15 +50,20 @@ fn night_text(alloc: Global, night: &GivenNight) -> Result<String, AllocError> {
     format!(in alloc; "{rows} {list}")
 }
 
-/// The line of a fault.
-fn fault_text(alloc: Global, fault: &LoadFault) -> Result<String, AllocError> {
-    let mut line = Vec::new(alloc);
-    fault.append_text(alloc, &mut line)?;
+/// The characters that stand for the bytes.
+pub(crate) fn text_of(alloc: Global, bytes: &[u8]) -> Result<String, AllocError> {
     let mut text = String::new(alloc);
-    for byte in &line {
+    for byte in bytes {
         text.push(char::from(*byte))?;
     }
     Ok(text)
+}
+
+/// The line of a fault.
+pub(crate) fn fault_text(alloc: Global, fault: &LoadFault) -> Result<String, AllocError> {
+    let mut line = Vec::new(alloc);
+    fault.append_text(alloc, &mut line)?;
+    text_of(alloc, &line)
 }
 
 /// What is told of a later night, and how many texts stand after it.

@@ -6,4 +6,6 @@ mod later;
 #[cfg(test)]
 mod lines;
 #[cfg(test)]
+mod opening;
+#[cfg(test)]
 mod reading;

@@ -32,7 +32,7 @@ impl<'a> Read for Cut<'a> {
 }
 
 /// What is asked, and below it what is answered.
-static ASKED: &str = "open 0
+static TALK_ASKED: &str = "open 0
 read 0 v 10
 night
 @changes a
@@ -69,7 +69,7 @@ quit
 open 0
 ";
 
-static ANSWERED: &str = "session 0
+static TALK_ANSWERED: &str = "session 0
 #,x
 1,one
 end
@@ -122,14 +122,14 @@ fn talked(
 fn lines_are_answered_however_they_are_cut(rt: HostRuntime) -> Result<(), Fail> {
     for most in [1, 2, 3, 7, 64, 1000] {
         let reads = Cut {
-            text: ASKED.as_bytes(),
+            text: TALK_ASKED.as_bytes(),
             given: 0,
             most,
             fails_at: None,
         };
         let (end, written) = talked(&rt, rt.alloc(), reads)?;
         assert!(&rt; end == TalkEnd::Done);
-        assert_eq!(&rt; written.as_slice(), ANSWERED.as_bytes());
+        assert_eq!(&rt; written.as_slice(), TALK_ANSWERED.as_bytes());
     }
     Ok(())
 }
@@ -152,7 +152,7 @@ fn an_input_that_ends_amid_a_night_says_nothing_of_it(rt: HostRuntime) -> Result
 #[test]
 fn a_read_that_fails_ends_the_talk(rt: HostRuntime) -> Result<(), Fail> {
     let reads = Cut {
-        text: ASKED.as_bytes(),
+        text: TALK_ASKED.as_bytes(),
         given: 0,
         most: 7,
         fails_at: Some(14),

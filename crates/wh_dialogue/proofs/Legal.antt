@@ -1,5 +1,5 @@
 -- What comes of a dialogue is one legal run.
-use Rattle.std.proofs.Common.{◌≡◌, refl, sym, ap, subst, ◌∙◌, ℕ, Bool, true, false, List, [], ◌∷◌, ◌++◌}
+use Rattle.std.proofs.Common.{◌≡◌, refl, sym, ap, subst, ◌∙◌, ℕ, true, false, List, [], ◌∷◌, ◌++◌}
 use Rattle.std.proofs.lemmas.List.{append-nil, append_assoc}
 use Rattle.wh_core.specs.Later.{finds_none}
 use Rattle.wh_core.specs.Log.{Log, logged}
@@ -48,7 +48,7 @@ refused_logged log _ why a_page = refl
 module _ (opening : Setup) where
   -- the same, with lists that are equal
   same_lists : (s : Setup) (log : Log) (es fs : List Event) (rs qs : List Reply) → es ≡ fs → rs ≡ qs → Lives opening s log es rs → Lives opening s log fs qs
-  same_lists s log es fs rs qs e r h i = Lives opening s log (e i) (r i)
+  same_lists s log es fs rs qs e r h = subst (λ all. Lives opening s log all qs) e (subst (λ all. Lives opening s log es all) r h)
 
   nothing_more : (s : Setup) (log : Log) (events : List Event) (replies : List Reply) → Lives opening s log events replies → Lives opening s log (events ++ []) (replies ++ [])
   nothing_more s log events replies h = subst (λ es. Lives opening s log es (replies ++ [])) (sym (append-nil events)) (subst (λ rs. Lives opening s log events rs) (sym (append-nil replies)) h)
@@ -58,7 +58,7 @@ module _ (opening : Setup) where
   went_on s begun _ events _ replies _ h at_first = nothing_more s begun events replies h
   went_on s begun _ events _ replies _ h (one_more es rs log e r before carries is other) =
       let lived = lives.answers s log (events ++ es) (replies ++ rs) e r (went_on s begun log events es replies rs h before) is (carrying_found e r carries) in
-      subst (λ all. Lives opening s (logged log e r) all (replies ++ rs ++ r ∷ [])) (append_assoc events es (e ∷ []))
+      subst (λ all. Lives opening s (logged log e r) all (replies ++ (rs ++ r ∷ []))) (append_assoc events es (e ∷ []))
       (subst (λ all. Lives opening s (logged log e r) ((events ++ es) ++ e ∷ []) all) (append_assoc replies rs (r ∷ [])) lived)
 
   has_stopped : (s : Setup) (log : Log) (events es : List Event) (replies rs : List Reply) (text : List ℕ) → Lives opening s log events replies → Stops s log es rs text
@@ -94,12 +94,12 @@ module _ (opening : Setup) where
       same_lists setup after ((events ++ event.Begin ∷ []) ++ es) (events ++ event.Begin ∷ es) ((replies ++ reply.Begun ∷ []) ++ rs) (replies ++ reply.Begun ∷ rs)
       (append_assoc events (event.Begin ∷ []) es) (append_assoc replies (reply.Begun ∷ []) rs) lived
 
-  lived : (s : Setup) (stood w : StandingOf) (commands : List Command) (events : List Event) (replies : List Reply) (text : List ℕ) (log : Log)
+  lived : (stood : StandingOf) (s : Setup) (w : StandingOf) (commands : List Command) (events : List Event) (replies : List Reply) (text : List ℕ) (log : Log)
       → Dialogue opening [] stood commands events replies text s log w → Lives opening s log events replies
-  lived _ stood _ _ _ _ _ _ opens = lives.opens
-  lived _ stood _ _ _ _ _ _ (answers commands events replies text s log w next asked replied said setup after stands before is) =
-      was_answered s setup log after w stands next events asked replies replied said (lived s stood w commands events replies text log before) is
+  lived stood _ _ _ _ _ _ _ opens = lives.opens
+  lived stood _ _ _ _ _ _ _ (answers commands events replies text s log w next asked replied said setup after stands before is) =
+      was_answered s setup log after w stands next events asked replies replied said (lived stood s w commands events replies text log before) is
 
 pub dialogues_are_legal : LivesAreLegalRuns → DialoguesAreLegalRuns
 dialogues_are_legal legal opening s stood w commands events replies text log dialogue =
-    legal opening s log events replies (lived opening s stood w commands events replies text log dialogue)
+    legal opening s log events replies (lived opening stood s w commands events replies text log dialogue)

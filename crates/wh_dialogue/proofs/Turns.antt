@@ -1,6 +1,6 @@
 -- Lines that come one after another are answered as the commands that they say as a whole.
 use Rattle.std.proofs.Common.{◌≡◌, ◌≢◌, refl, sym, ap, subst, ◌∙◌, ℕ, List, [], ◌∷◌, ◌++◌, append_assoc, append-nil}
-use Rattle.std.specs.Prelude.{Option, Some, None, IfSome}
+use Rattle.std.specs.Prelude.{Option, Some, None, IfSome, Result, Ok, Err, OnOk, false, is_err}
 use Rattle.std.specs.Io.KnownBytes.{Appends, prepend_known}
 use Rattle.std.specs.List.{cons_option}
 use Rattle.wh_core.specs.Laws.{IsSetup}
@@ -14,9 +14,13 @@ use Rattle.wh_dialogue.specs.Dialogue.{AreAnswered, BeginsSo, Dialogue, IsAnswer
 use Rattle.wh_dialogue.specs.Inner.Steps.{EndsWith, IsAnsweredIn, IsLineAnswered, a_command, goes_on, no_command, quits}
 use Rattle.wh_dialogue.specs.declared.talking.TalkEnd.{TalkEnd}
 use Rattle.wh_dialogue.specs.declared.talking.TalkEnd.TheVariants as ends
-use Rattle.wh_live.specs.Commands.{Command, commands_below, commands_of, taken}
+use Rattle.wh_live.specs.Commands.{Command, commands_below, commands_of, shown_command, taken}
+use Rattle.wh_live.specs.declared.command.Command.{Command as CommandRead}
+use Rattle.wh_live.specs.declared.command.Command.TheVariants as read
 use Rattle.wh_live.specs.Commands as command
 use Rattle.wh_live.specs.LinesRead.{FirstLines, HandsOut, IsFirstLine}
+use Rattle.wh_live.specs.declared.line_reader.LineFault.{LineFault as LineFaultRead}
+use Rattle.wh_live.specs.declared.line_reader.LineFault.TheVariants as LineFault
 use Rattle.wh_stay.specs.Standing.{StandingOf, core_of, standing_of}
 use Rattle.wh_stay.specs.Told.{IsNightTold, has_begun}
 use Rattle.wh_stay.specs.Told as told_how
@@ -111,10 +115,10 @@ ends_early s log w known before after amid rest live end other talk = record {
   dialogue = talk.dialogue;
   written = talk.written;
   read = if_some known (λ all. AreAnswered (commands_of w.names (lines_of all)) end talk.commands) (λ all same.
-    let left = talk.left all same in
-    let below = commands_below w.names amid (lines_of left.0) in
-    a_beginning end (commands_of w.names (lines_of all)) talk.commands other
-    (up_to_quit below, ap up_to_quit left.2.1 ∙ talk.go_on below));
+      let left = talk.left all same in
+      let below = commands_below w.names amid (lines_of left.0) in
+      a_beginning end (commands_of w.names (lines_of all)) talk.commands other
+      (up_to_quit below, ap up_to_quit left.2 ∙ talk.go_on below));
 }
   where
     a_beginning : (end : TalkEnd) (all commands : List Command) → end ≢ ends.Done → BeginsSo (up_to_quit all) commands → AreAnswered all end commands
@@ -137,10 +141,10 @@ ends_last s log w known before after amid rest rest' live hands talk = record {
   dialogue = talk.dialogue;
   written = talk.written;
   read = if_some known (λ all. talk.commands ≡ up_to_quit (commands_of w.names (lines_of all))) (λ all same.
-    let left = talk.left all same in
-    let nothing : left.0 ≡ [] = no_bytes left.0 rest' (subst (λ r. HandsOut r None rest') left.2.0 hands) in
-    let whole : commands_of w.names (lines_of all) ≡ talk.commands ++ [] = left.2.1 ∙ ap (λ bytes. talk.commands ++ commands_below w.names amid (lines_of bytes)) nothing in
-    sym (ap up_to_quit whole ∙ talk.go_on [] ∙ append-nil talk.commands));
+      let left = talk.left all same in
+      let nothing : left.0 ≡ [] = no_bytes left.0 rest' (subst (λ r. HandsOut r None rest') left.1 hands) in
+      let whole : commands_of w.names (lines_of all) ≡ talk.commands ++ [] = left.2 ∙ ap (λ bytes. talk.commands ++ commands_below w.names amid (lines_of bytes)) nothing in
+      sym (ap up_to_quit whole ∙ talk.go_on [] ∙ append-nil talk.commands));
 }
   where
     no_bytes : (bytes : List ℕ) (after : Option (List ℕ)) → HandsOut (Some bytes) None after → bytes ≡ []
@@ -158,13 +162,12 @@ module _ {F G : Type 0} (first : FirstLines) (s : Setup) (log : Log) (w : Standi
       → (bytes : List ℕ) × (rest' ≡ Some bytes) × (commands_of w.names (lines_of all) ≡ talk.commands ++ cons_option ended (commands_below w.names amid' (lines_of bytes)))
   left_below amid' ended took all same =
       let left = talk.left all same in
-      let below = below_line left.0 rest' (subst (λ r. HandsOut r (Some line) rest') left.2.0 hands) in
-      let took_here : taken w.names amid line ≡ (amid', ended) = ap (λ names. taken names amid line) (sym talk.names) ∙ took in
-      (
+      let below = below_line left.0 rest' (subst (λ r. HandsOut r (Some line) rest') left.1 hands) in
+      let took_here : taken w.names amid line ≡ (amid', ended) = ap (λ names. taken names amid line) (sym talk.names) ∙ took in (
         below.0,
-        below.2.0,
-        left.2.1 ∙ ap (λ lines. talk.commands ++ commands_below w.names amid lines) (first left.0 line below.0 below.2.1)
-        ∙ ap (λ (t : Option (List ℕ) × Option Command). talk.commands ++ cons_option t.1 (commands_below w.names t.0 (lines_of below.0))) took_here,
+        below.1,
+        left.2 ∙ ap (λ lines. talk.commands ++ commands_below w.names amid lines) (first left.0 line below.0 below.2)
+            ∙ ap (λ (t : Option (List ℕ) × Option Command). talk.commands ++ cons_option t.1 (commands_below w.names t.0 (lines_of below.0))) took_here,
       )
 
   -- the dialogue with one command more
@@ -190,7 +193,7 @@ module _ {F G : Type 0} (first : FirstLines) (s : Setup) (log : Log) (w : Standi
       go_on = λ all. ap up_to_quit (append_assoc talk.commands (next ∷ []) all) ∙ talk.go_on (next ∷ all) ∙ ap (λ cs. talk.commands ++ cs) (next_goes_on next all other)
           ∙ sym (append_assoc talk.commands (next ∷ []) (up_to_quit all));
       left = λ all same. (let left = left_below amid' (Some next) took all same in
-      (left.0, left.2.0, left.2.1 ∙ sym (append_assoc talk.commands (next ∷ []) (commands_below w.names amid' (lines_of left.0)))));
+          (left.0, left.1, left.2 ∙ sym (append_assoc talk.commands (next ∷ []) (commands_below w.names amid' (lines_of left.0)))));
     }
 
     -- it is the last
@@ -206,9 +209,9 @@ module _ {F G : Type 0} (first : FirstLines) (s : Setup) (log : Log) (w : Standi
       dialogue = more;
       written = appended before after after' talk.text said talk.written wrote;
       read = if_some known (λ all. talk.commands ++ next ∷ [] ≡ up_to_quit (commands_of w.names (lines_of all))) (λ all same.
-        let left = left_below amid' (Some next) took all same in
-        let below = commands_below w.names amid' (lines_of left.0) in
-        sym (ap up_to_quit left.2.1 ∙ talk.go_on (next ∷ below) ∙ ap (λ (c : Command). talk.commands ++ up_to_quit (c ∷ below)) last ∙ ap (λ (c : Command). talk.commands ++ c ∷ []) (sym last)));
+          let left = left_below amid' (Some next) took all same in
+          let below = commands_below w.names amid' (lines_of left.0) in
+          sym (ap up_to_quit left.2 ∙ talk.go_on (next ∷ below) ∙ ap (λ (c : Command). talk.commands ++ up_to_quit (c ∷ below)) last ∙ ap (λ (c : Command). talk.commands ++ c ∷ []) (sym last)));
     }
 
   pub goes_on_after : (amid' after' : Option (List ℕ)) (live' : Live F G) → IsLineAnswered talk.setup talk.log_then (standing_of live) amid line amid' after after' None live'
@@ -233,3 +236,60 @@ module _ {F G : Type 0} (first : FirstLines) (s : Setup) (log : Log) (w : Standi
   pub ends_after : (amid' after' : Option (List ℕ)) (live' : Live F G) (end : TalkEnd) → IsLineAnswered talk.setup talk.log_then (standing_of live) amid line amid' after after' (Some end) live'
       → IsTalk s log w known before after' end
   ends_after amid' after' live' _ (a_command _ _ _ _ _ said _ took is wrote quits) = ends_with amid' after' live' command.Quit said took is wrote refl
+
+-- ---- what calls answer
+
+-- bytes that were put without a failure
+pub known_ok : {T E : Type 0} (r : Result T E) (before after : Option (List ℕ)) (put text : List ℕ) → false ≡ is_err r → OnOk r (Appends before after put) → put ≡ text → Appends before after text
+known_ok (Ok x) before after put text fine wrote same = subst (Appends before after) same wrote
+known_ok (Err e) before after put text fine wrote same = cc
+
+shown_quit : (c : CommandRead) → shown_command c ≡ command.Quit → c ≡ read.Quit
+shown_quit read.Quit is = refl
+shown_quit c is = cc
+
+pub quits_by : (c : CommandRead) → c ≡ read.Quit → EndsWith (shown_command c) (Some ends.Done)
+quits_by c is = subst (λ q. EndsWith (shown_command q) (Some ends.Done)) (sym is) quits
+
+pub goes_on_by : (c : CommandRead) → (c ≡ read.Quit → ⊥) → EndsWith (shown_command c) None
+goes_on_by c other = goes_on (shown_command c) (λ is. other (shown_quit c is))
+
+-- a talk begins, before any line
+pub begins_at : {F G : Type 0} (s : Setup) (log : Log) (known before amid : Option (List ℕ)) (reader : List ℕ) (live : Live F G) → amid ≡ None → reader ≡ [] → IsSetup s
+    → StandsWith s log (core_of live) → IsAmidTalk s log (standing_of live) known before before amid (prepend_known reader known) live
+begins_at s log known before amid reader live none empty is h =
+    subst (λ a. IsAmidTalk s log (standing_of live) known before before a (prepend_known reader known) live) (sym none)
+    (subst (λ r. IsAmidTalk s log (standing_of live) known before before None (prepend_known r known) live) (sym empty) (talk_begins s log known before live is h))
+
+-- it ends at a line
+pub ends_by : {F G : Type 0} (first : FirstLines) (s : Setup) (log : Log) (w : StandingOf) (known before after amid rest rest' : Option (List ℕ)) (live : Live F G) (line : List ℕ)
+    (hands : HandsOut rest (Some line) rest') (talk : IsAmidTalk s log w known before after amid rest live) (amid' after' : Option (List ℕ)) (live' : Live F G) (end : TalkEnd)
+    → end ≢ ends.Write → (Some end ≢ Some ends.Read) → (Some end ≡ Some ends.Memory → after' ≡ after)
+    → (Some end ≢ Some ends.Memory → Some end ≢ Some ends.Write → IsLineAnswered talk.setup talk.log_then (standing_of live) amid line amid' after after' (Some end) live')
+    → IsTalk s log w known before after' end
+ends_by first s log w known before after amid rest rest' live line hands talk amid' after' live' ends.Done write read memory answered =
+    ends_after first s log w known before after amid rest rest' live line hands talk amid' after' live' ends.Done (answered (λ e. cc) (λ e. cc))
+ends_by first s log w known before after amid rest rest' live line hands talk amid' after' live' ends.Read write read memory answered = absurd (read refl)
+ends_by first s log w known before after amid rest rest' live line hands talk amid' after' live' ends.Memory write read memory answered =
+    subst (λ a. IsTalk s log w known before a ends.Memory) (sym (memory refl)) (ends_early s log w known before after amid rest live ends.Memory (λ e. cc) talk)
+ends_by first s log w known before after amid rest rest' live line hands talk amid' after' live' ends.Write write read memory answered = absurd (write refl)
+
+pub none_of : {T : Type 0} (r : Option T) → ((x : T) → r ≡ Some x → ⊥) → r ≡ None
+none_of None other = refl
+none_of (Some x) other = absurd (other x refl)
+
+pub some_same : (a b : TalkEnd) → Some a ≡ Some b → a ≡ b
+some_same a b e = cc
+
+pub memory_done : ends.Memory ≢ ends.Done
+memory_done e = cc
+
+pub read_done : ends.Read ≢ ends.Done
+read_done e = cc
+
+-- a line that was not had for want of memory was not missed at a read
+pub read_memory : {T : Type 0} (f : LineFaultRead) → f ≡ LineFault.Memory → ◌≡◌ {A = Result T LineFaultRead} (Err f) (Err LineFault.Read) → ⊥
+read_memory f is e = cc
+
+pub ok_read : {T : Type 0} (x : T) → Ok x ≡ Err LineFault.Read → ⊥
+ok_read x e = cc

@@ -83,8 +83,9 @@ pub(crate) fn night_text<F: RowTest + Drop, G: RowValue + Drop, R: Threads + Syn
     let told = live.begin_night(budget, parts);
     let mut text = Vec::new(budget.alloc);
     append_told(budget.alloc, &mut text, &told)?;
-    if told.has_begun() {
-        carry_on(budget.alloc, live, &mut text)?;
+    if !told.has_begun() {
+        return Ok(text);
     }
+    carry_on(budget.alloc, live, &mut text)?;
     Ok(text)
 }

@@ -19,11 +19,7 @@ use wh_store::Page;
 use wh_threads::ThreadBudget;
 
 /// Appends the line of a reply. That memory was refused is told in one word.
-pub(crate) fn append_said(
-    alloc: Global,
-    out: &mut Vec<u8>,
-    reply: &Reply,
-) -> Result<(), AllocError>
+pub(crate) fn append_said(alloc: Global, out: &mut Vec<u8>, reply: &Reply) -> Result<(), AllocError>
     ensures { OnOk result (out.new.items ≡ out.old.items ++ said_line reply.now) }
 {
     if let Reply::Refused(Cause::Memory) = reply {

@@ -1,7 +1,6 @@
 //! Reads lines, answers the commands that they say, and writes the answers.
 
-ghost use Rattle.std.specs.Prelude.{◌≡◌, ◌≢◌, ◌<◌, ◌↔◌, None, Some};
-ghost use Rattle.std.specs.Io.KnownBytes.{Keeps};
+ghost use Rattle.std.specs.Prelude.{◌≡◌, ◌≢◌, ◌<◌, ◌↔◌, [], IsTrue, None, Some};
 ghost use Rattle.wh_core.specs.Laws.{IsSetup};
 ghost use Rattle.wh_core.specs.Log.{Log};
 ghost use Rattle.wh_core.specs.Nights.{Setup};
@@ -14,7 +13,7 @@ ghost use Rattle.wh_stay.specs.Standing.{IsLive, core_of, standing_of};
 use crate::answer::answer;
 use std::thread::Threads;
 use wh_formula::{RowTest, RowValue};
-use wh_live::{Command, LineFault, LineReader, Lines};
+use wh_live::{Command, LineFault, LineReader, Lines, first_lines_law};
 use wh_stay::Live;
 use wh_stream::{Sink, Source};
 use wh_threads::ThreadBudget;
@@ -34,7 +33,7 @@ pub enum TalkEnd {
 
 /// Tells whether a command ends the talk.
 fn is_quit(command: &Command) -> bool
-    ensures { Rattle.std.specs.Prelude.IsTrue result ↔ (command.now ≡ read.Quit) }
+    ensures { IsTrue result ↔ (command.now ≡ read.Quit) }
 {
     matches!(command, Command::Quit)
 }
@@ -54,6 +53,7 @@ fn answer_line<F: RowTest + Drop, G: RowValue + Drop, R: Threads + Sync, W: Sink
     ensures memory { result ≡ Some TalkEnd.Memory → out.new ≡ out.old }
     ensures read { result ≢ Some TalkEnd.Read }
     ensures failed { (result ≡ Some TalkEnd.Write) ↔ (W.faults out.old < W.faults out.new) }
+    ensures faultless { result ≢ Some TalkEnd.Write → W.faults out.new ≡ W.faults out.old }
     ensures flushed { W.unflushed out.old ≡ 0 → result ≢ Some TalkEnd.Write → W.unflushed out.new ≡ 0 }
 {
     let command = match lines.take(budget.alloc, live.names(), line) {
@@ -69,6 +69,40 @@ fn answer_line<F: RowTest + Drop, G: RowValue + Drop, R: Threads + Sync, W: Sink
         return Some(TalkEnd::Write);
     }
     if quits { Some(TalkEnd::Done) } else { None }
+}
+
+/// Reads lines and answers their commands, from the first line on, up to where the talk ends.
+fn take_turns<F: RowTest + Drop, G: RowValue + Drop, R: Threads + Sync, S: Source, W: Sink>(
+    budget: &ThreadBudget<'_, R>,
+    live: &mut Live<F, G>,
+    reader: &mut LineReader,
+    lines: &mut Lines,
+    input: &mut S,
+    out: &mut W,
+) -> TalkEnd
+    requires live { IsLive live.old }
+    requires reader { reader.old ≡ [] }
+    requires lines { lines.old ≡ None }
+    ensures told { result ≢ TalkEnd.Write → (s : Setup) (log : Log) → IsSetup s → StandsWith s log (core_of live.old)
+        → IsTalk s log (standing_of live.old) (S.remaining input.old) (W.contents out.old) (W.contents out.new) result }
+    ensures read { (result ≡ TalkEnd.Read) ↔ (S.faults input.old < S.faults input.new) }
+    ensures failed { (result ≡ TalkEnd.Write) ↔ (W.faults out.old < W.faults out.new) }
+    ensures faultless { result ≢ TalkEnd.Write → W.faults out.new ≡ W.faults out.old }
+    ensures flushed { W.unflushed out.old ≡ 0 → result ≢ TalkEnd.Write → W.unflushed out.new ≡ 0 }
+{
+    first_lines_law();
+    for turn in 0..u64::MAX {
+        let line = match reader.next_line(input) {
+            Ok(Some(line)) => line,
+            Ok(None) => return TalkEnd::Done,
+            Err(LineFault::Read) => return TalkEnd::Read,
+            Err(LineFault::Memory) => return TalkEnd::Memory,
+        };
+        if let Some(end) = answer_line(budget, live, lines, &line, out) {
+            return end;
+        }
+    }
+    TalkEnd::Memory
 }
 
 /// Reads the lines of a source and answers the commands that they say, one after another, up to the command that ends the talk or to the
@@ -87,23 +121,13 @@ pub fn talk<F: RowTest + Drop, G: RowValue + Drop, R: Threads + Sync, S: Source,
         → IsTalk s log (standing_of live) (S.remaining input.old) (W.contents out.old) (W.contents out.new) result }
     ensures read { (result ≡ TalkEnd.Read) ↔ (S.faults input.old < S.faults input.new) }
     ensures failed { (result ≡ TalkEnd.Write) ↔ (W.faults out.old < W.faults out.new) }
+    ensures faultless { result ≢ TalkEnd.Write → W.faults out.new ≡ W.faults out.old }
     ensures flushed { W.unflushed out.old ≡ 0 → result ≢ TalkEnd.Write → W.unflushed out.new ≡ 0 }
 {
     let mut live = live;
     let mut lines = Lines::new();
-    let Ok(mut reader) = LineReader::new(budget.alloc) else {
-        return TalkEnd::Memory;
-    };
-    for turn in 0..u64::MAX {
-        let line = match reader.next_line(input) {
-            Ok(Some(line)) => line,
-            Ok(None) => return TalkEnd::Done,
-            Err(LineFault::Read) => return TalkEnd::Read,
-            Err(LineFault::Memory) => return TalkEnd::Memory,
-        };
-        if let Some(end) = answer_line(budget, &mut live, &mut lines, &line, out) {
-            return end;
-        }
+    match LineReader::new(budget.alloc) {
+        Ok(mut reader) => take_turns(budget, &mut live, &mut reader, &mut lines, input, out),
+        Err(_) => TalkEnd::Memory,
     }
-    TalkEnd::Memory
 }

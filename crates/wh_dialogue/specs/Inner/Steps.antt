@@ -4,7 +4,6 @@ use Rattle.std.specs.Io.KnownBytes.{Appends}
 use Rattle.wh_core.specs.Laws.{IsSetup}
 use Rattle.wh_core.specs.Log.{Log}
 use Rattle.wh_core.specs.Nights.{Setup}
-use Rattle.wh_core.specs.Replies.{IsReply}
 use Rattle.wh_core.specs.Standing.{StandsWith}
 use Rattle.wh_core.specs.declared.event.Event.{Event}
 use Rattle.wh_core.specs.declared.reply.Reply.{Reply}

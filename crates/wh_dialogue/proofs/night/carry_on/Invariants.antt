@@ -8,7 +8,7 @@ use Rattle.wh_stay.specs.Standing.{IsLive, core_of, standing_of}
 use Rattle.wh_dialogue.proofs.night.carry_on.Given as goal
 
 abbrev pub invariant-loop-turn : goal.invariant-loop-turn
-invariant-loop-turn l = record {
+invariant-loop-turn g l = record {
   counted : l.turn ≤ vec_len l.out;
   live : IsLive l.live;
   standing : standing_of l.live ≡ standing_of l.initial.live;

@@ -1,0 +1,15 @@
+use Rattle.std.proofs.Common.{refl, sym, ap, subst}
+use Rattle.wh_dialogue.proofs.Steps.{end_in, if_ok, strange_in}
+use Rattle.wh_dialogue.specs.Dialogue.{IsStrange, not_known}
+use Rattle.wh_live.specs.Commands.{shown_command}
+use Rattle.wh_stay.specs.Standing.{standing_of}
+use Rattle.wh_dialogue.proofs.answer.answer.Goals as goal
+
+pub returns-in-Quit-clause-answered : goal.returns-in-Quit-clause-answered
+returns-in-Quit-clause-answered g c = λ s log is h.
+    end_in s log (standing_of c.args.live.now) (shown_command c.args.command) c.new.result.items c.args.live.now is h refl (ap shown_command c.in-Quit.is) c.new.ensures.items
+
+pub returns-in-Unknown-clause-answered : goal.returns-in-Unknown-clause-answered
+returns-in-Unknown-clause-answered g c =
+    if_ok c.unknown.result _ _ c.unknown.ensures (λ text same s log is h.
+    strange_in s log (standing_of c.args.live.now) (shown_command c.args.command) text.items c.args.live.now is h refl (subst IsStrange (sym (ap shown_command c.in-Unknown.is)) not_known) same)

@@ -1,0 +1,2 @@
+pub mod FirstForeign
+pub mod OpeningFrom
