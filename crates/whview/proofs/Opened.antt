@@ -65,14 +65,14 @@ opened_setup cat is base old read bags opened valued how =
       opening = ready.opening;
       tables = ready.tables_fit;
       nights = ready.nights_fit;
-      some_desks = how.some_desks.0;
-      few_desks = how.few_desks.0;
-      some_workers = how.some.0;
-      few_workers = how.few.0;
-      some_keys = how.least.0;
-      few_keys = how.most.0;
-      versions = how.some_versions.0;
-      few_versions = how.few_versions.0;
+      some_desks = how.some_desks;
+      few_desks = how.few_desks;
+      some_workers = how.some;
+      few_workers = how.few;
+      some_keys = how.least;
+      few_keys = how.most;
+      versions = how.some_versions;
+      few_versions = how.few_versions;
     }
 
 -- ---- a talk

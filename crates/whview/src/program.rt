@@ -7,7 +7,7 @@ ghost use Rattle.whview.specs.CommandFault.{status_of, text_of};
 ghost use Rattle.whview.specs.Status.{status_number};
 ghost use Rattle.whview.specs.Output.{AskToRead, HoldsOfFile, HoldsOfReading, IsAskedOutput, IsCommandOutput, IsInputOutput, IsInputWanted, IsLineAnswer, IsMemoryTold, IsReadAnswer, ReadsInput, file_of, limit_of};
 ghost use Rattle.whview.specs.LiveOutput.{IsHandedAnswer};
-ghost use Rattle.whview.specs.Inner.LiveOutput.{IsAskedAnswer, IsOpenedBy};
+ghost use Rattle.whview.specs.Inner.LiveOutput.{IsAskedAnswer, IsLiveSo};
 ghost use Rattle.whview.specs.Inner.Output.{IsUnreadShown, OpensNothing, is_live};
 
 use crate::answer::Answer;
@@ -160,18 +160,22 @@ fn is_live(asked: &Asked<'_>) -> bool
 
 /// The warehouse that a command opens: `live` where it names a file.
 fn opened_by<'a>(asked: &Asked<'a>) -> Option<ToOpen<'a>>
-    ensures some { IfSome result (λ warehouse. IsOpenedBy warehouse asked.now) }
+    ensures how { IfSome result (λ warehouse. IsLiveSo warehouse.how asked.now) }
+    ensures file { IfSome result (λ warehouse. file_of asked.now ≡ Some warehouse.path.now) }
+    ensures limit { IfSome result (λ warehouse. limit_of asked.now ≡ warehouse.limit) }
     ensures none { result ≡ None → OpensNothing asked.now }
 {
-    let Asked::Live { how, input } = asked else {
-        return None;
-    };
-    let path = input.file?;
-    Some(ToOpen {
-        how: *how,
-        path,
-        limit: input.limit,
-    })
+    match asked {
+        Asked::Live { how, .. } => match file_of(asked) {
+            Some(path) => Some(ToOpen {
+                how: *how,
+                path,
+                limit: limit_of(asked),
+            }),
+            None => None,
+        },
+        _ => None,
+    }
 }
 
 /// What a command answers that was handed in and opens no warehouse.

@@ -8,11 +8,10 @@ use Rattle.wh_text.specs.declared.fault.LoadFault.{LoadFault}
 use Rattle.whview.specs.CheckOutput.{IsFaultShown}
 use Rattle.whview.specs.LiveOutput.{IsLiveTold, IsNotOpened, IsTalkTold, IsWithoutContents, setup_of_live, standing_in}
 use Rattle.whview.specs.NightOutput.{AreOpened}
-use Rattle.whview.specs.Output.{HoldsOfFile, HoldsOfReading, IsAskedOutput, IsMemoryTold, IsReadAnswer, file_of, limit_of}
+use Rattle.whview.specs.Output.{HoldsOfFile, HoldsOfReading, IsAskedOutput, IsMemoryTold, IsReadAnswer, file_of}
 use Rattle.whview.specs.declared.command_line.Asked.{Asked}
 use Rattle.whview.specs.declared.command_line.Asked.TheVariants as asked
 use Rattle.whview.specs.declared.data_input.DataInput.{DataInput}
-use Rattle.whview.specs.declared.live.ToOpen.{ToOpen}
 use Rattle.whview.specs.declared.live_options.LiveOptions.{LiveOptions}
 
 -- some bytes within the limit give this opening
@@ -43,12 +42,10 @@ pub data IsOpenedAnswer (how : LiveOptions) (o : OpeningOf) (known : Option (Lis
 abbrev pub IsLiveAnswer : LiveOptions → ℕ → Option (List ℕ) → ℕ → ℕ → Option (List ℕ) → Option (List ℕ) → ℕ → Type 0
 IsLiveAnswer how limit known faults failed before after status = TellsMemory before after status ⊎ IsLiveTold how limit known faults failed before after status
 
--- this is the warehouse that a command opens
-pub record IsOpenedBy (warehouse : ToOpen) (command : Asked) : Type 0 where
-  pub input : DataInput
-  pub is : command ≡ asked.Live warehouse.how input
-  pub names : file_of command ≡ Some warehouse.path.now
-  pub most : limit_of command ≡ warehouse.limit
+-- the command is `live`, over a machine of this size
+abbrev pub IsLiveSo : LiveOptions → Asked → Type 0
+IsLiveSo how (asked.Live own input) = own ≡ how
+IsLiveSo how command = ⊥
 
 -- what the program comes to for a command that was handed in, and the status
 pub data IsAskedAnswer (command : Asked) (known : Option (List ℕ)) (faults failed : ℕ) (before after : Option (List ℕ)) (status : ℕ) : Type 0 where
