@@ -327,7 +327,7 @@ pub fn run<'a, E: Files + Threads + Wait + Sync, R: Source, W: Sink>(
     ensures in_line { words.now ≡ [] → result ≢ 5 → (text : List ℕ) × Appends (W.contents out.old) (W.contents out.new) text
         × (IsMemoryTold text result ⊎ HoldsOfReading (R.remaining input.old) (R.faults input.old) (R.faults input.new) (λ reading. IsInputOutput reading text result)) }
 
-    // Words that name a file or are refused leave the reader unread.
+    // Words that are refused leave the reader unread. So does a file that is named, but by `live`, and `live` where none is named.
     ensures unread { words.now ≢ [] → ¬ (AskToRead (texts words.now)) → input.new ≡ input.old }
 {
     run_watched(rt, alloc, words, input, out, &NoWatch)
@@ -351,7 +351,7 @@ pub fn run_watched<
     ensures in_line { words.now ≡ [] → result ≢ 5 → (text : List ℕ) × Appends (W.contents out.old) (W.contents out.new) text
         × (IsMemoryTold text result ⊎ HoldsOfReading (R.remaining input.old) (R.faults input.old) (R.faults input.new) (λ reading. IsInputOutput reading text result)) }
 
-    // Words that name a file or are refused leave the reader unread.
+    // Words that are refused leave the reader unread. So does a file that is named, but by `live`, and `live` where none is named.
     ensures unread { words.now ≢ [] → ¬ (AskToRead (texts words.now)) → input.new ≡ input.old }
 {
     if words.is_empty() {

@@ -10,5 +10,5 @@ returns-clause-told g c written s log is stands =
 
 pub returns-clause-failed : goal.returns-clause-failed
 returns-clause-failed g c =
-    counted c.talk-end.result c.tell_end.result _ _ _ c.talk-end.ensures.failed c.talk-end.ensures.kept c.tell_end.ensures.failed
+    counted c.talk-end.result c.tell_end.result _ _ _ c.talk-end.ensures.failed c.talk-end.ensures.faultless c.tell_end.ensures.failed
     (λ e. let wrote = c.tell_end.ensures.write e in (wrote.0, ap g.W.Sink.faults wrote.1))
