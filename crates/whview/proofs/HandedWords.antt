@@ -1,5 +1,5 @@
 -- What the program comes to for a command and for words that were handed in, from what its parts answer.
-use Rattle.std.proofs.Common.{◌≡◌, ◌⊎◌, ℕ, List, Option, Some, Result, inl, inr, refl, sym, subst, ⊎_elim}
+use Rattle.std.proofs.Common.{◌≡◌, ℕ, List, Option, Some, Result, inl, inr, refl, sym, subst, ⊎_elim}
 use Rattle.std.specs.Prelude.{IfOk, IsSome}
 use Rattle.std.specs.Io.KnownBytes.{Appends}
 use Rattle.whview.specs.Inner.LiveOutput.{IsAskedAnswer, IsLiveAnswer, IsLiveSo, by_talk, once}

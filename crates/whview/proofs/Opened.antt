@@ -1,6 +1,6 @@
 -- What `live` comes to, from what its parts answer.
-use Rattle.std.proofs.Common.{◌≡◌, ◌≢◌, ◌<◌, ◌≤◌, ◌↔◌, ◌⊎◌, ℕ, List, [], length, Option, None, Some, Result, Ok, Err, inl, inr, refl, sym, ap, subst, ◌∙◌, arith, ⊎_elim, append-nil}
-use Rattle.std.specs.Prelude.{IfOk, IfSome, MatchResult, OnOk}
+use Rattle.std.proofs.Common.{◌≡◌, ◌≢◌, ◌<◌, ◌≤◌, ◌↔◌, ◌⊎◌, ℕ, List, [], length, Option, None, Some, Result, Ok, Err, inl, inr, refl, sym, ap, subst, ◌∙◌, ⊎_elim, append-nil}
+use Rattle.std.specs.Prelude.{IfOk, MatchResult, OnOk}
 use Rattle.std.specs.Io.KnownBytes.{Appends}
 use Rattle.std.proofs.lemmas.List.Elements.{All-nil}
 use Rattle.wh_core.specs.Laws.{IsSetup}
@@ -26,16 +26,15 @@ use Rattle.wh_text.specs.declared.fault.LoadFault.TheVariants as fault
 use Rattle.wh_text_catalogue.specs.ReadCatalog.{catalog_of}
 use Rattle.whview.specs.CheckOutput.{IsFaultShown}
 use Rattle.whview.specs.Inner.FitNight.{AreReadTables}
-use Rattle.whview.specs.Inner.FitReplay.{AreChangesOf, IsReady}
-use Rattle.whview.specs.Inner.LiveOutput.{IsFileFault, IsLiveAnswer, IsOpenedAnswer, IsOpeningWithin, TellsMemory, no_contents, talks, wants_memory}
+use Rattle.whview.specs.Inner.FitReplay.{IsReady}
+use Rattle.whview.specs.Inner.LiveOutput.{IsFileFault, IsLiveAnswer, IsOpenedAnswer, IsOpeningWithin, no_contents, talks, wants_memory}
 use Rattle.whview.specs.Inner.Output.{IsTold}
-use Rattle.whview.specs.LiveOutput.{IsEndedWith, IsNotOpened, IsTalkTold, IsWithoutContents, end_text, not_opened, setup_of_live, standing_in, talked}
-use Rattle.whview.specs.NightOutput.{AreOpened, refused_text}
-use Rattle.whview.specs.Output.{Bytes, Failed, HoldsOfFile, IsMemoryTold, IsReadAnswer, too_long, within}
+use Rattle.whview.specs.LiveOutput.{IsEndedWith, IsTalkTold, IsWithoutContents, end_text, not_opened, setup_of_live, standing_in, talked}
+use Rattle.whview.specs.NightOutput.{refused_text}
+use Rattle.whview.specs.Output.{Bytes, Failed, too_long, within}
 use Rattle.whview.specs.Status.{status_number}
 use Rattle.whview.specs.declared.answer.Answer.{Answer}
 use Rattle.whview.specs.declared.live_options.LiveOptions.{LiveOptions}
-use Rattle.whview.specs.declared.status.Status.{Status}
 use Rattle.whview.specs.declared.status.Status.TheVariants.{Negative}
 use Rattle.whview.proofs.NightDecided.{AreOpenedBy, opened_by}
 use Rattle.whview.proofs.Outputs.{longer}

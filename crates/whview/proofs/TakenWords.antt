@@ -1,10 +1,10 @@
 -- Words that are taken are of the table.
-use Rattle.std.proofs.Common.{◌≡◌, ◌≤◌, ℕ, arith, codes, refl, sym, subst, false, List, [], ◌∷◌, Option, None, Some}
+use Rattle.std.proofs.Common.{◌≡◌, ◌≤◌, arith, codes, refl, sym, subst, List, [], ◌∷◌, Option, None, Some}
 use Rattle.std.specs.Prelude.{IsSome, IsSomeAnd, find}
 use Rattle.std.specs.List.{AllByRecursion}
 use Rattle.std.specs.Str.{bytes_eq}
 use Rattle.clap.specs.Words.{Row, Text, fault_of, first_of, subcommand_of}
-use Rattle.whview.specs.CommandLine.{Amount, File, Number, Print, Takes, options_of, print_fault, table, whview_app, words_fault, worth}
+use Rattle.whview.specs.CommandLine.{Amount, File, Number, Print, Takes, options_of, print_fault, table, whview_app, worth}
 use Rattle.whview.specs.CommandTaken.{MayBeWorth, TakenWordsAreOfTheTable}
 use Rattle.whview.specs.Inner.CommandLine.{AreTaken, Fits, IsCommand, NamesCommand, check, certify, live, night, plan, replay}
 use Rattle.whview.proofs.Commands.{faultless_names}

@@ -5,7 +5,6 @@ use Rattle.std.specs.Str.{is_utf8}
 use Rattle.clap.specs.Words.{IsAmong, subcommand_of}
 use Rattle.clap.specs.declared.error.kind.ErrorKind.{ErrorKind}
 use Rattle.wh_text.specs.declared.fault.LoadFault.TheVariants as fault
-use Rattle.wh_text_bundle.specs.declared.read.ReadFault.TheVariants.{Read, TooLong}
 use Rattle.whview.specs.CertifyOutput.{IsCertifyOutput}
 use Rattle.whview.specs.CheckOutput.{IsCheckOutput, IsFaultShown, line}
 use Rattle.whview.specs.CommandFault.{status_of_kind}
