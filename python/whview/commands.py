@@ -3,10 +3,10 @@
 HELP = """\
 Keeps the views of a warehouse up to date: strategies that are judged, planned and carried out by a proved program.
 
-    whview check | plan | certify | night | replay [OPTIONS]    the proved program, on a bundle
-    whview folder COMMAND FOLDER ..                             the views of a folder of CSV files, version by version
-    whview sql COMMAND WAREHOUSE ..                             nights as SQL that PostgreSQL or SQLite carries out, also over live tables
-    whview cluster COMMAND FOLDER --server HOST:PORT ..         a warehouse on ClickHouse servers
+    whview check | plan | certify | night | replay | live [OPTIONS]    the proved program, on a bundle
+    whview folder COMMAND FOLDER ..                                    the views of a folder of CSV files, version by version
+    whview sql COMMAND WAREHOUSE ..                                    nights as SQL that PostgreSQL or SQLite carries out, also over live tables
+    whview cluster COMMAND FOLDER --server HOST:PORT ..                a warehouse on ClickHouse servers
 
     whview use [proved | unproved]        which program is taken from now on; it is built where it is missing
     whview install [--prefix DIR]         puts the command, the program that is built and what they need below DIR, ~/.local without it
@@ -25,6 +25,7 @@ OF_PROGRAM = {
     "certify": ("Judges a plan by its certificate.", ("--comp-cost", "--inst-cost", "--input")),
     "night": ("Carries a strategy out and shows the new tables.", ("--workers", "--readers", "--page-keys", "--print", "--input", "--most")),
     "replay": ("Goes through a schedule of events and prints the reply to each.", ("--input", "--most")),
+    "live": ("Keeps a warehouse and answers commands, line by line.", ("--workers", "--desks", "--versions", "--page-keys", "--input", "--most")),
 }
 ROOMS = ("folder", "sql", "cluster")
 # The commands that are no room: each has a module with `run`.

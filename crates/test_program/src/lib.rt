@@ -6,6 +6,8 @@ mod given;
 #[cfg(test)]
 mod lengths;
 #[cfg(test)]
+mod live;
+#[cfg(test)]
 mod runs;
 #[cfg(test)]
 mod watched;

@@ -87,6 +87,7 @@ fn take_turns<F: RowTest + Drop, G: RowValue + Drop, R: Threads + Sync, S: Sourc
         → IsTalk s log (standing_of live.old) (S.remaining input.old) (W.contents out.old) (W.contents out.new) result }
     ensures read { (result ≡ TalkEnd.Read) ↔ (S.faults input.old < S.faults input.new) }
     ensures failed { (result ≡ TalkEnd.Write) ↔ (W.faults out.old < W.faults out.new) }
+    ensures faultless { result ≢ TalkEnd.Write → W.faults out.new ≡ W.faults out.old }
     ensures flushed { W.unflushed out.old ≡ 0 → result ≢ TalkEnd.Write → W.unflushed out.new ≡ 0 }
 {
     first_lines_law();
@@ -120,6 +121,7 @@ pub fn talk<F: RowTest + Drop, G: RowValue + Drop, R: Threads + Sync, S: Source,
         → IsTalk s log (standing_of live) (S.remaining input.old) (W.contents out.old) (W.contents out.new) result }
     ensures read { (result ≡ TalkEnd.Read) ↔ (S.faults input.old < S.faults input.new) }
     ensures failed { (result ≡ TalkEnd.Write) ↔ (W.faults out.old < W.faults out.new) }
+    ensures faultless { result ≢ TalkEnd.Write → W.faults out.new ≡ W.faults out.old }
     ensures flushed { W.unflushed out.old ≡ 0 → result ≢ TalkEnd.Write → W.unflushed out.new ≡ 0 }
 {
     let mut live = live;

@@ -1,6 +1,5 @@
 -- How many rows an operation writes at most has no part in why a night is refused.
 use Rattle.std.proofs.Common.{ℕ}
-use Rattle.wh_strategy.specs.declared.expression.Expression.TheVariants.{Inst}
 use Rattle.wh_maint.specs.declared.fault.MaintFault.{MaintFault}
 use Rattle.wh_carry.specs.declared.stages.Stage.{Stage}
 use Rattle.wh_carry.specs.declared.stages.Stage.TheVariants as stage

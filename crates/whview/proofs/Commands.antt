@@ -15,7 +15,7 @@ use Rattle.clap.specs.declared.builder.value_parser.ValueParser.{ValueParser}
 use Rattle.clap.specs.declared.builder.value_parser.ValueParser.TheVariants as parser
 use Rattle.clap.proofs.ValueTestLemmas.{accepts-Accepts}
 use Rattle.whview.specs.CommandLine.{Takes, command_of, options_of, priced, program_of, whview_app}
-use Rattle.whview.specs.Inner.CommandLine.{AreTaken, IsCommand, NamesCommand, check, certify, night, plan, replay}
+use Rattle.whview.specs.Inner.CommandLine.{AreTaken, IsCommand, NamesCommand, check, certify, live, night, plan, replay}
 use Rattle.whview.proofs.Entered.{EachCommand, IsNotHelp, entered_command}
 use Rattle.whview.proofs.LeafRows.{AreOptionsOf, IsOptionOf, PassesIn, first_of_good}
 
@@ -100,6 +100,28 @@ replay_options = (
   ),
 )
 
+-- its workers, its desks, its versions, its rows of a page, its file, its length and its help
+live_options : AreOptionsOf (command_shape (codes "live") (options_of (codes "live"))).rules (command_shape (codes "live") (options_of (codes "live"))).rules
+live_options = (
+  option_known _ _ refl (λ e. cc) refl refl,
+  (
+    option_known _ _ refl (λ e. cc) refl refl,
+    (
+      option_known _ _ refl (λ e. cc) refl refl,
+      (
+        option_known _ _ refl (λ e. cc) refl refl,
+        (
+          option_known _ _ refl (λ e. cc) refl refl,
+          (
+            option_known _ _ refl (λ e. cc) refl refl,
+            (option_known _ _ refl (λ e. cc) refl refl, tt),
+          ),
+        ),
+      ),
+    ),
+  ),
+)
+
 -- an option that has a parser has a value that it takes
 option_value : (s : Shape) → AreOptionsOf s.rules s.rules → (name : Text) (p : ValueParser) (a : Rule) → arg_by_id s.rules name ≡ Some a → a.ignore_case ≡ false → a.parser ≡ Some p
     → (words : List Text) → level_fault s [] nothing_held words false [] ≡ [] → IfSome (first_of name (rows_after s.rules [] words)) (Accepts false p)
@@ -157,6 +179,24 @@ replay_shape = command_shape (codes "replay") (options_of (codes "replay"))
 replay_taken : (words : List Text) → level_fault replay_shape [] nothing_held words false [] ≡ [] → AreTaken (rows_after replay_shape.rules [] words) (options_of (codes "replay"))
 replay_taken words e = (tt, (option_value replay_shape replay_options (codes "most") (parser.Unsigned 1 1099511627776) _ refl refl refl words e, tt))
 
+abbrev live_shape : Shape
+live_shape = command_shape (codes "live") (options_of (codes "live"))
+
+live_taken : (words : List Text) → level_fault live_shape [] nothing_held words false [] ≡ [] → AreTaken (rows_after live_shape.rules [] words) (options_of (codes "live"))
+live_taken words e = (
+  option_value live_shape live_options (codes "workers") (parser.Unsigned 1 16) _ refl refl refl words e,
+  (
+    option_value live_shape live_options (codes "desks") (parser.Unsigned 1 16) _ refl refl refl words e,
+    (
+      option_value live_shape live_options (codes "versions") (parser.Unsigned 2 4) _ refl refl refl words e,
+      (
+        option_value live_shape live_options (codes "page-keys") (parser.Unsigned 1 256) _ refl refl refl words e,
+        (tt, (option_value live_shape live_options (codes "most") (parser.Unsigned 1 1099511627776) _ refl refl refl words e, tt)),
+      ),
+    ),
+  ),
+)
+
 each_command : EachCommand IsCommand (built whview_app).subs
 each_command = (
   λ word words answers named e. check refl (command_taken (codes "check") words e),
@@ -166,7 +206,10 @@ each_command = (
       λ word words answers named e. certify refl (command_taken (codes "certify") words e),
       (
         λ word words answers named e. night refl (night_taken words e),
-        (λ word words answers named e. replay refl (replay_taken words e), (λ word words answers named e. absurd (not_help word answers named), tt)),
+        (
+          λ word words answers named e. replay refl (replay_taken words e),
+          (λ word words answers named e. live refl (live_taken words e), (λ word words answers named e. absurd (not_help word answers named), tt)),
+        ),
       ),
     ),
   ),

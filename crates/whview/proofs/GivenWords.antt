@@ -609,6 +609,24 @@ replay_known = (
   (known_option _ _ _ _ (omega arith) refl refl refl refl refl refl refl (λ text. refl) refl (λ text. refl) refl, tt),
 )
 
+live_known : AllByRecursion (IsKnown (built_command (codes "live")).rules) (options_of (codes "live"))
+live_known = (
+  known_option _ _ _ _ (omega arith) refl refl refl refl refl refl refl (λ text. refl) refl (λ text. refl) refl,
+  (
+    known_option _ _ _ _ (omega arith) refl refl refl refl refl refl refl (λ text. refl) refl (λ text. refl) refl,
+    (
+      known_option _ _ _ _ (omega arith) refl refl refl refl refl refl refl (λ text. refl) refl (λ text. refl) refl,
+      (
+        known_option _ _ _ _ (omega arith) refl refl refl refl refl refl refl (λ text. refl) refl (λ text. refl) refl,
+        (
+          known_option _ _ _ _ tt refl refl refl refl refl refl refl (λ text. refl) refl (λ text. refl) refl,
+          (known_option _ _ _ _ (omega arith) refl refl refl refl refl refl refl (λ text. refl) refl (λ text. refl) refl, tt),
+        ),
+      ),
+    ),
+  ),
+)
+
 command_is : (name : Text) → AllByRecursion (IsKnown (built_command name).rules) (options_of name) → AreUndefaulted (built_command name).rules → ((rows : List Row) → check_fault (built_command name) rows false ≡ [])
     → IsCommandOf (built_command name) (options_of name)
 command_is name known undefaulted wants_none = record { known = known; undefaulted = undefaulted; wants_none = wants_none }
@@ -627,7 +645,10 @@ all_commands = (
       taken_so (codes "certify") _ (meets (codes "certify") refl refl refl refl) (command_is (codes "certify") certify_known (refl, (refl, (refl, (refl, tt)))) (λ rows. refl)) (λ takes e. cc),
       (
         taken_so (codes "night") _ (meets (codes "night") refl refl refl refl) (command_is (codes "night") night_known (refl, (refl, (refl, (refl, (refl, (refl, (refl, tt))))))) (λ rows. refl)) (λ takes e. cc),
-        (taken_so (codes "replay") _ (meets (codes "replay") refl refl refl refl) (command_is (codes "replay") replay_known (refl, (refl, (refl, tt))) (λ rows. refl)) (λ takes e. cc), tt),
+        (
+          taken_so (codes "replay") _ (meets (codes "replay") refl refl refl refl) (command_is (codes "replay") replay_known (refl, (refl, (refl, tt))) (λ rows. refl)) (λ takes e. cc),
+          (taken_so (codes "live") _ (meets (codes "live") refl refl refl refl) (command_is (codes "live") live_known (refl, (refl, (refl, (refl, (refl, (refl, (refl, tt))))))) (λ rows. refl)) (λ takes e. cc), tt),
+        ),
       ),
     ),
   ),

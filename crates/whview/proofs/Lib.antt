@@ -25,6 +25,8 @@ pub mod PlansCertified
 pub mod SmallWorks
 pub mod NightDecided
 pub mod ReplayDecided
+pub mod Opened
+pub mod HandedWords
 pub mod ReadRows
 pub mod StoredCatalog
 pub mod ViewsTexts

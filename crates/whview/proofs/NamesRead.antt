@@ -15,7 +15,6 @@ use Rattle.wh_dag.specs.declared.fault.ShapeFault.{ShapeFault}
 use Rattle.wh_text.specs.Line.{is_blank}
 use Rattle.wh_text.specs.NameForm.{begins_name, continues_name, is_name, underscore}
 use Rattle.wh_text.specs.declared.fault.Key.TheVariants as key
-use Rattle.wh_text.specs.declared.fault.LoadFault.{LoadFault}
 use Rattle.wh_text.specs.declared.fault.LoadFault.TheVariants as fault
 use Rattle.wh_text_catalogue.proofs.ShapesRead.{from_step, same_Ok, same_length}
 use Rattle.wh_text_catalogue.specs.Catalogue.{WrittenViews, document_of, judged, name_in, named, shape_of, view_over, views_of, written_views}

@@ -1,5 +1,5 @@
 -- The text of an option that is a number is a numeral of it.
-use Rattle.std.proofs.Common.{◌≡◌, ◌≤◌, ◌∙◌, ℕ, Bool, false, true, pos, arith, refl, sym, subst, Option, Some}
+use Rattle.std.proofs.Common.{◌≡◌, ◌≤◌, ◌∙◌, ℕ, Bool, false, true, pos, arith, refl, sym, subst, Some}
 use Rattle.std.specs.Str.Parse.{IsNumeral, starts_with_minus, without_leading_plus}
 use Rattle.std.proofs.lemmas.Int.{ints}
 use Rattle.clap.specs.Words.{Accepts, Text, first_of, first_value, rows_of}

@@ -1,5 +1,5 @@
 -- What the program prints, from what its parts answer.
-use Rattle.std.proofs.Common.{◌≡◌, ◌≢◌, ◌≤◌, ◌<◌, ℕ, zero, suc, arith, List, [], ◌∷◌, Bool, ◌||◌, Option, Some, None, Result, Ok, Err, length, refl, sym, ap, subst, ◌∙◌, ⊎_elim}
+use Rattle.std.proofs.Common.{◌≡◌, ◌≢◌, ◌≤◌, ◌<◌, ℕ, zero, suc, arith, List, [], ◌∷◌, Bool, true, false, ◌||◌, Option, Some, None, Result, Ok, Err, length, refl, sym, ap, subst, ◌∙◌, ⊎_elim}
 use Rattle.std.specs.Prelude.{IfOk, IfSome, IsErrOf, MatchResult, map}
 use Rattle.std.specs.Borrow.{Bor}
 use Rattle.std.specs.List.{list_any}
@@ -8,10 +8,11 @@ use Rattle.wh_text_bundle.specs.declared.read.ReadFault.TheVariants as reading
 use Rattle.whview.specs.CommandFault.{FailsAs, status_of}
 use Rattle.whview.specs.CommandLine.{words_fault}
 use Rattle.whview.specs.FirstLine.{words_in, names_input, names_most}
-use Rattle.whview.specs.Output.{AskFor, Bytes, Failed, HoldsOfFile, HoldsOfReading, IsCommandOutput, IsHandedOutput, IsReadAnswer, IsRefused, IsSourceAnswer, Reading, answered, file_of, limit_of, too_long, within}
-use Rattle.whview.specs.Inner.Output.{IsUnreadShown}
+use Rattle.whview.specs.Output.{Bytes, Failed, HoldsOfFile, HoldsOfReading, IsAskedOutput, IsCommandOutput, IsHandedOutput, IsInputWanted, IsReadAnswer, IsRefused, IsSourceAnswer, IsUnopened, Reading, ReadsInput, file_of, limit_of, refused, too_long, within}
+use Rattle.whview.specs.Inner.Output.{IsUnreadShown, OpensNothing, is_live}
 use Rattle.whview.specs.Status.{status_number}
 use Rattle.whview.specs.declared.command_line.Asked.{Asked}
+use Rattle.whview.specs.declared.command_line.Asked.TheVariants as asked
 use Rattle.whview.specs.declared.command_line.fault.CommandFault.{CommandFault}
 use Rattle.whview.specs.declared.command_line.fault.CommandFault.TheVariants.{Memory}
 
@@ -24,7 +25,7 @@ refused_as words f status fails told ended =
 
 -- ---- what was read
 
-longer : (n : ℕ) → (xs : List ℕ) × (n < length xs)
+pub longer : (n : ℕ) → (xs : List ℕ) × (n < length xs)
 longer zero = (0 ∷ [], omega arith)
 longer (suc n) = let shorter = longer n in (0 ∷ shorter.0, let l : n < length shorter.0 = shorter.1 in omega arith)
 
@@ -65,16 +66,55 @@ some_bytes None = ([], tt)
 pub left_unread : (known : Option (List ℕ)) (faults : ℕ) (P : Reading → Type 0) → ((reading : Reading) → P reading) → HoldsOfReading known faults faults P
 left_unread known faults P holds = let some = some_bytes known in (Bytes some.0, (some.1, refl), holds (Bytes some.0))
 
-pub from_file : (words : List (List ℕ)) (known : Option (List ℕ)) (faults : ℕ) (text : List ℕ) (status : ℕ) (command : Asked) (path : List ℕ) → AskFor words command → Some path ≡ file_of command
-    → HoldsOfFile (λ own. IsReadAnswer (limit_of command) own (IsCommandOutput command) text status) → HoldsOfReading known faults faults (λ reading. IsHandedOutput words reading text status)
-from_file words known faults text status command path ask is holds =
-    left_unread known faults (λ reading. IsHandedOutput words reading text status)
-    (λ reading. answered command ask (subst (λ file. IsSourceAnswer (limit_of command) file reading (IsCommandOutput command) text status) is holds))
+-- what is printed of a command other than `live`
+of_source : (command : Asked) (reading : Reading) (text : List ℕ) (status : ℕ) → is_live command ≡ false
+    → IsSourceAnswer (limit_of command) (file_of command) reading (IsCommandOutput command) text status → IsAskedOutput command reading text status
+of_source (asked.Check costs input) reading text status e is = is
+of_source (asked.Plan costs budget input) reading text status e is = is
+of_source (asked.Certify costs input) reading text status e is = is
+of_source (asked.Night how input) reading text status e is = is
+of_source (asked.Replay input) reading text status e is = is
+of_source (asked.Live how input) reading text status e is = let bad : true ≡ false = e in cc
 
-pub from_reader : (words : List (List ℕ)) (known : Option (List ℕ)) (before after : ℕ) (text : List ℕ) (status : ℕ) (command : Asked) → AskFor words command → None ≡ file_of command
-    → HoldsOfReading known before after (λ own. IsReadAnswer (limit_of command) own (IsCommandOutput command) text status) → HoldsOfReading known before after (λ reading. IsHandedOutput words reading text status)
-from_reader words known before after text status command ask is holds =
-    (holds.0, holds.1, answered command ask (subst (λ file. IsSourceAnswer (limit_of command) file holds.0 (IsCommandOutput command) text status) is holds.2))
+unopened : (file : Option (List ℕ)) (text : List ℕ) (status : ℕ) → file ≡ None → IsInputWanted text status → IsUnopened file text status
+unopened None text status e is = is
+unopened (Some path) text status e is = let bad : ⊥ = cc in absurd bad
+
+-- of `live` that names no file
+pub from_none : (command : Asked) (known : Option (List ℕ)) (faults : ℕ) (text : List ℕ) (status : ℕ) → is_live command ≡ true → OpensNothing command
+    → IsInputWanted text status → HoldsOfReading known faults faults (λ reading. IsAskedOutput command reading text status)
+from_none (asked.Live how input) known faults text status e nothing is =
+    left_unread known faults (λ reading. IsAskedOutput (asked.Live how input) reading text status) (λ reading. unopened (file_of (asked.Live how input)) text status nothing is)
+from_none (asked.Check costs input) known faults text status e nothing is = let bad : false ≡ true = e in cc
+from_none (asked.Plan costs budget input) known faults text status e nothing is = let bad : false ≡ true = e in cc
+from_none (asked.Certify costs input) known faults text status e nothing is = let bad : false ≡ true = e in cc
+from_none (asked.Night how input) known faults text status e nothing is = let bad : false ≡ true = e in cc
+from_none (asked.Replay input) known faults text status e nothing is = let bad : false ≡ true = e in cc
+
+pub from_file : (command : Asked) (known : Option (List ℕ)) (faults : ℕ) (text : List ℕ) (status : ℕ) (path : List ℕ) → is_live command ≡ false → Some path ≡ file_of command
+    → HoldsOfFile (λ own. IsReadAnswer (limit_of command) own (IsCommandOutput command) text status) → HoldsOfReading known faults faults (λ reading. IsAskedOutput command reading text status)
+from_file command known faults text status path other is holds =
+    left_unread known faults (λ reading. IsAskedOutput command reading text status)
+    (λ reading. of_source command reading text status other (subst (λ file. IsSourceAnswer (limit_of command) file reading (IsCommandOutput command) text status) is holds))
+
+pub from_reader : (command : Asked) (known : Option (List ℕ)) (before after : ℕ) (text : List ℕ) (status : ℕ) → is_live command ≡ false → None ≡ file_of command
+    → HoldsOfReading known before after (λ own. IsReadAnswer (limit_of command) own (IsCommandOutput command) text status) → HoldsOfReading known before after (λ reading. IsAskedOutput command reading text status)
+from_reader command known before after text status other is holds =
+    (holds.0, holds.1, of_source command holds.0 text status other (subst (λ file. IsSourceAnswer (limit_of command) file holds.0 (IsCommandOutput command) text status) is holds.2))
+
+-- a command other than `live` that names no file reads the program's reader
+pub reads_input : (command : Asked) → is_live command ≡ false → None ≡ file_of command → ReadsInput command
+reads_input (asked.Check costs input) e none = sym none
+reads_input (asked.Plan costs budget input) e none = sym none
+reads_input (asked.Certify costs input) e none = sym none
+reads_input (asked.Night how input) e none = sym none
+reads_input (asked.Replay input) e none = sym none
+reads_input (asked.Live how input) e none = let bad : true ≡ false = e in cc
+
+-- of words that are no command line
+pub of_refusal : (words : List (List ℕ)) (known : Option (List ℕ)) (faults : ℕ) (text : List ℕ) (status : ℕ) → IsRefused words status
+    → HoldsOfReading known faults faults (λ reading. IsHandedOutput words reading text status)
+of_refusal words known faults text status is = left_unread known faults (λ reading. IsHandedOutput words reading text status) (λ reading. refused is)
 
 -- ---- words on the first line
 

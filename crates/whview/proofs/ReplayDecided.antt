@@ -16,7 +16,7 @@ use Rattle.wh_text_catalogue.specs.Definitions.{ViewOf}
 use Rattle.wh_text_catalogue.specs.ReadCatalog.{catalog_of}
 use Rattle.wh_dag.specs.Catalog.{CatalogOf, IsCatalog}
 use Rattle.wh_dag.specs.Shape.{Views}
-use Rattle.wh_load.specs.ReadingNight.{AreReadRows, ChangeRows, GivenNight, Opening}
+use Rattle.wh_load.specs.ReadingNight.{ChangeRows, GivenNight, Opening}
 use Rattle.wh_load.specs.ReadingReplay.{AreReadForNights, AreReadNights, Replay}
 use Rattle.wh_load.specs.ReadingShown.{shown_given}
 use Rattle.wh_load.specs.declared.reading.inputs.GivenNight.{GivenNight as ReadNight}

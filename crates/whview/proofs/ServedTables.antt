@@ -1,5 +1,5 @@
 -- The tables before a night and after it are tables.
-use Rattle.std.proofs.Common.{◌≡◌, ◌<◌, ◌≤◌, ℕ, List, arith, length, subst, sym, ⊎_elim}
+use Rattle.std.proofs.Common.{ℕ, List, arith, length, subst, sym, ⊎_elim}
 use Rattle.std.proofs.lemmas.Bool.{cases_lt}
 use Rattle.wh_carry.proofs.Agreeing.{past}
 use Rattle.wh_carry.specs.CarriedOut.{IsNightCarried}

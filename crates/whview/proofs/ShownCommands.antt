@@ -1,5 +1,5 @@
 -- What commands have in common that are shown alike.
-use Rattle.std.proofs.Common.{◌≡◌, ◌∙◌, ℕ, zero, suc, ap, codes, cond, sym, List, [], ◌∷◌, Option, None, Some}
+use Rattle.std.proofs.Common.{◌≡◌, ◌∙◌, ℕ, zero, suc, codes, cond, sym, List, [], ◌∷◌, Option, None, Some}
 use Rattle.std.specs.Str.{bytes_eq}
 use Rattle.clap.specs.Words.{Row, Text}
 use Rattle.wh_strategy.specs.Prices.{prices_of}
@@ -37,7 +37,9 @@ file_in (OfPrint what ∷ rest) = file_in rest
 
 -- the most bytes of the input
 abbrev pub limit_in : Shown → ℕ
-limit_in s = cond (bytes_eq s.0 (codes "night")) (number_at 5 s.1) (cond (bytes_eq s.0 (codes "replay")) (number_at 1 s.1) usual_limit)
+limit_in s =
+    cond (bytes_eq s.0 (codes "night")) (number_at 5 s.1)
+    (cond (bytes_eq s.0 (codes "replay")) (number_at 1 s.1) (cond (bytes_eq s.0 (codes "live")) (number_at 5 s.1) usual_limit))
 
 -- two commands that are asked for by the same words are shown alike
 pub shown_alike : (found : Option (Text × List Row)) (command other : Asked) → IsAsked found command → IsAsked found other → shown other ≡ shown command

@@ -1,6 +1,7 @@
 -- The same words and bytes have one answer at most.
-use Rattle.std.proofs.Common.{◌≡◌, ◌<◌, ◌≤◌, ℕ, List, [], ◌∷◌, Option, Some, None, Result, Ok, Err, true, false, refl, sym, ap, subst, ◌∙◌, inl, inr, arith}
+use Rattle.std.proofs.Common.{◌≡◌, ◌<◌, ◌≤◌, ℕ, List, [], ◌∷◌, Bool, Option, Some, None, Result, Ok, Err, true, false, refl, sym, ap, subst, ◌∙◌, inl, inr, arith}
 use Rattle.std.specs.Prelude.{MatchResult, codes}
+use Rattle.std.specs.Str.{bytes_eq}
 use Rattle.clap.specs.Words.{IsAmong, Kinds, Row, Text}
 use Rattle.clap.specs.declared.error.kind.ErrorKind.{ErrorKind}
 use Rattle.wh_dag.specs.Shape.{IsShape}
@@ -34,7 +35,8 @@ use Rattle.whview.proofs.SingleNights.{one_night}
 use Rattle.whview.proofs.SingleReplays.{one_replay}
 use Rattle.whview.proofs.SinglePlans.{as_planning, one_plan}
 use Rattle.whview.specs.OneAnswer.{AreOneAnswer, AreOneAnswerTo, AreOneLineAnswer, AreSame, OneCertifyOutput, OneCheckOutput, OneHandedOutput, OneInputOutput, one_text}
-use Rattle.whview.specs.Output.{AskFor, Bytes, Failed, IsCommandOutput, IsHandedOutput, IsLineAnswer, IsReadAnswer, IsRefused, IsSourceAnswer, IsWordsAnswer, Reading, ReadsInput, answered, file_of, limit_of, names_a_file, names_a_limit, not_text, refused, of_words, too_long, within}
+use Rattle.whview.specs.Inner.Output.{is_live}
+use Rattle.whview.specs.Output.{AskFor, Bytes, Failed, IsAskedOutput, IsCommandOutput, IsHandedOutput, IsInputWanted, IsLineAnswer, IsReadAnswer, IsRefused, IsSourceAnswer, IsUnopened, IsWordsAnswer, Reading, answered, file_of, limit_of, names_a_file, names_a_limit, not_text, refused, of_words, too_long, within}
 use Rattle.whview.specs.declared.command_line.Asked.{Asked}
 use Rattle.whview.specs.declared.command_line.Asked.TheVariants as asked
 use Rattle.wh_text_catalogue.proofs.ShapesRead.{from_step, is_shape, same_Ok}
@@ -192,6 +194,21 @@ certify_is_not_replay e = begin_apart (codes "certify") (codes "replay") 99 114 
 night_is_not_replay : codes "night" ≡ codes "replay" → ⊥
 night_is_not_replay e = begin_apart (codes "night") (codes "replay") 110 114 refl refl (omega arith) e
 
+check_is_not_live : codes "check" ≡ codes "live" → ⊥
+check_is_not_live e = begin_apart (codes "check") (codes "live") 99 108 refl refl (omega arith) e
+
+plan_is_not_live : codes "plan" ≡ codes "live" → ⊥
+plan_is_not_live e = begin_apart (codes "live") (codes "plan") 108 112 refl refl (omega arith) (sym e)
+
+certify_is_not_live : codes "certify" ≡ codes "live" → ⊥
+certify_is_not_live e = begin_apart (codes "certify") (codes "live") 99 108 refl refl (omega arith) e
+
+night_is_not_live : codes "night" ≡ codes "live" → ⊥
+night_is_not_live e = begin_apart (codes "live") (codes "night") 108 110 refl refl (omega arith) (sym e)
+
+replay_is_not_live : codes "replay" ≡ codes "live" → ⊥
+replay_is_not_live e = begin_apart (codes "live") (codes "replay") 108 114 refl refl (omega arith) (sym e)
+
 -- two commands that are shown alike print the same
 alike_asked : (command other : Asked) → shown other ≡ shown command
     → (bytes text : List ℕ) (status : ℕ) → IsCommandOutput other bytes text status → IsCommandOutput command bytes text status
@@ -232,6 +249,17 @@ alike_asked (asked.Replay input) (asked.Check costs' input') same bytes text sta
 alike_asked (asked.Replay input) (asked.Plan costs' budget' input') same bytes text status is = absurd (plan_is_not_replay (ap (λ (s : Shown). s.0) same))
 alike_asked (asked.Replay input) (asked.Certify costs' input') same bytes text status is = absurd (certify_is_not_replay (ap (λ (s : Shown). s.0) same))
 alike_asked (asked.Replay input) (asked.Night how' input') same bytes text status is = absurd (night_is_not_replay (ap (λ (s : Shown). s.0) same))
+alike_asked (asked.Live how input) (asked.Live how' input') same bytes text status is = is
+alike_asked (asked.Check costs input) (asked.Live how' input') same bytes text status is = absurd (check_is_not_live (sym (ap (λ (s : Shown). s.0) same)))
+alike_asked (asked.Live how input) (asked.Check costs' input') same bytes text status is = absurd (check_is_not_live (ap (λ (s : Shown). s.0) same))
+alike_asked (asked.Plan costs budget input) (asked.Live how' input') same bytes text status is = absurd (plan_is_not_live (sym (ap (λ (s : Shown). s.0) same)))
+alike_asked (asked.Live how input) (asked.Plan costs' budget' input') same bytes text status is = absurd (plan_is_not_live (ap (λ (s : Shown). s.0) same))
+alike_asked (asked.Certify costs input) (asked.Live how' input') same bytes text status is = absurd (certify_is_not_live (sym (ap (λ (s : Shown). s.0) same)))
+alike_asked (asked.Live how input) (asked.Certify costs' input') same bytes text status is = absurd (certify_is_not_live (ap (λ (s : Shown). s.0) same))
+alike_asked (asked.Night how input) (asked.Live how' input') same bytes text status is = absurd (night_is_not_live (sym (ap (λ (s : Shown). s.0) same)))
+alike_asked (asked.Live how input) (asked.Night how' input') same bytes text status is = absurd (night_is_not_live (ap (λ (s : Shown). s.0) same))
+alike_asked (asked.Replay input) (asked.Live how' input') same bytes text status is = absurd (replay_is_not_live (sym (ap (λ (s : Shown). s.0) same)))
+alike_asked (asked.Live how input) (asked.Replay input') same bytes text status is = absurd (replay_is_not_live (ap (λ (s : Shown). s.0) same))
 
 -- two commands that the same words ask for print the same
 one_asked : (found : Option (Text × List Row)) (command other : Asked) → IsAsked found command → IsAsked found other
@@ -245,6 +273,11 @@ as_one (asked.Plan costs budget input) bytes text other status ended same = one_
 as_one (asked.Certify costs input) bytes text other status ended same = same
 as_one (asked.Night how input) bytes text other status ended same = same
 as_one (asked.Replay input) bytes text other status ended same = same
+as_one (asked.Live how input) bytes text other status ended same = same
+
+-- that `live` needs a file is told by one text
+one_wanted : (text other : List ℕ) (status ended : ℕ) → IsInputWanted text status → IsInputWanted other ended → AreSame text status other ended
+one_wanted text other status ended f g = record { texts = f.printed ∙ sym g.printed; statuses = f.ended ∙ sym g.ended }
 
 one_output : (command : Asked) (bytes text other : List ℕ) (status ended : ℕ) → IsCommandOutput command bytes text status → IsCommandOutput command bytes other ended → AreOneAnswer command bytes text status other ended
 one_output (asked.Check costs input) bytes text other status ended f g = one_check costs bytes text other status ended f g
@@ -252,6 +285,7 @@ one_output (asked.Plan costs budget input) bytes text other status ended f g = o
 one_output (asked.Certify costs input) bytes text other status ended f g = one_certification costs bytes text other status ended f g
 one_output (asked.Night how input) bytes text other status ended f g = one_night how.print how.readers bytes text other status ended f g
 one_output (asked.Replay input) bytes text other status ended f g = one_replay bytes text other status ended f g
+one_output (asked.Live how input) bytes text other status ended f g = one_wanted text other status ended f g
 
 file_shown : (command : Asked) → file_of command ≡ file_in (shown command).1
 file_shown (asked.Check costs input) = refl
@@ -259,6 +293,7 @@ file_shown (asked.Plan costs budget input) = refl
 file_shown (asked.Certify costs input) = refl
 file_shown (asked.Night how input) = refl
 file_shown (asked.Replay input) = refl
+file_shown (asked.Live how input) = refl
 
 -- two commands that the same words ask for read the same
 one_file : (found : Option (Text × List Row)) (command other : Asked) → IsAsked found command → IsAsked found other → file_of other ≡ file_of command
@@ -271,6 +306,7 @@ limit_shown (asked.Plan costs budget input) = refl
 limit_shown (asked.Certify costs input) = refl
 limit_shown (asked.Night how input) = refl
 limit_shown (asked.Replay input) = refl
+limit_shown (asked.Live how input) = refl
 
 -- up to the same limit
 one_limit : (found : Option (Text × List Row)) (command other : Asked) → IsAsked found command → IsAsked found other → limit_of other ≡ limit_of command
@@ -308,22 +344,83 @@ from_reader : (limit : ℕ) (file : Option (List ℕ)) (reading : Reading) (of :
 from_reader limit None reading of text status e is = is
 from_reader limit (Some path) reading of text status e is = let bad : ⊥ = cc in absurd bad
 
+-- what is printed of a command other than `live`, where this was read of a reader or a file
+once : (command : Asked) (reading : Reading) (text : List ℕ) (status : ℕ) → is_live command ≡ false
+    → IsAskedOutput command reading text status → IsSourceAnswer (limit_of command) (file_of command) reading (IsCommandOutput command) text status
+once (asked.Check costs input) reading text status e is = is
+once (asked.Plan costs budget input) reading text status e is = is
+once (asked.Certify costs input) reading text status e is = is
+once (asked.Night how input) reading text status e is = is
+once (asked.Replay input) reading text status e is = is
+once (asked.Live how input) reading text status e is = let bad : true ≡ false = e in cc
+
+unopened : (file : Option (List ℕ)) (text : List ℕ) (status : ℕ) → file ≡ None → IsUnopened file text status → IsInputWanted text status
+unopened None text status e is = is
+unopened (Some path) text status e is = absurd is
+
+-- and what is printed of `live` where it names no file
+wanted : (command : Asked) (reading : Reading) (text : List ℕ) (status : ℕ) → is_live command ≡ true → file_of command ≡ None
+    → IsAskedOutput command reading text status → IsInputWanted text status
+wanted (asked.Live how input) reading text status e none is = unopened (file_of (asked.Live how input)) text status none is
+wanted (asked.Check costs input) reading text status e none is = let bad : false ≡ true = e in cc
+wanted (asked.Plan costs budget input) reading text status e none is = let bad : false ≡ true = e in cc
+wanted (asked.Certify costs input) reading text status e none is = let bad : false ≡ true = e in cc
+wanted (asked.Night how input) reading text status e none is = let bad : false ≡ true = e in cc
+wanted (asked.Replay input) reading text status e none is = let bad : false ≡ true = e in cc
+
+live_shown : (command : Asked) → is_live command ≡ bytes_eq (shown command).0 (codes "live")
+live_shown (asked.Check costs input) = refl
+live_shown (asked.Plan costs budget input) = refl
+live_shown (asked.Certify costs input) = refl
+live_shown (asked.Night how input) = refl
+live_shown (asked.Replay input) = refl
+live_shown (asked.Live how input) = refl
+
+-- two commands that the same words ask for are `live`, or neither is
+one_kind : (found : Option (Text × List Row)) (command other : Asked) → IsAsked found command → IsAsked found other → is_live other ≡ is_live command
+one_kind found command other f g =
+    live_shown other ∙ ap (λ (s : Shown). bytes_eq s.0 (codes "live")) (shown_alike found command other f g) ∙ sym (live_shown command)
+
+-- the command that the words ask for, of which this is printed
+handed : (words : List (List ℕ)) (reading : Reading) (text : List ℕ) (status : ℕ) → words_fault words ≡ [] → IsHandedOutput words reading text status
+    → (command : Asked) × AskFor words command × IsAskedOutput command reading text status
+handed words reading text status taken (refused refusal) = absurd (not_refused words status taken refusal)
+handed words reading text status taken (answered command ask is) = (command, ask, is)
+
 -- the answer is that of the command that the words ask for
-handed : (words : List (List ℕ)) (command : Asked) (reading : Reading) (text : List ℕ) (status : ℕ) → AskFor words command → ReadsInput command
+handed_once : (words : List (List ℕ)) (command : Asked) (reading : Reading) (text : List ℕ) (status : ℕ) → AskFor words command → file_of command ≡ None → is_live command ≡ false
     → IsHandedOutput words reading text status → IsReadAnswer (limit_of command) reading (IsCommandOutput command) text status
-handed words command reading text status ask reads (refused refusal) = absurd (not_refused words status ask.taken refusal)
-handed words command reading text status ask reads (answered other again is) =
-    read_as (limit_of command) reading (IsCommandOutput other) (IsCommandOutput command) text status (λ bytes. one_asked _ command other ask.asked again.asked bytes text status)
-    (subst (λ limit. IsReadAnswer limit reading (IsCommandOutput other) text status) (one_limit _ command other ask.asked again.asked)
-    (from_reader (limit_of other) (file_of other) reading (IsCommandOutput other) text status (one_file _ command other ask.asked again.asked ∙ reads) is))
+handed_once words command reading text status ask none other f =
+    let own = handed words reading text status ask.taken f in
+    read_as (limit_of command) reading (IsCommandOutput own.0) (IsCommandOutput command) text status (λ bytes. one_asked _ command own.0 ask.asked own.1.asked bytes text status)
+    (subst (λ limit. IsReadAnswer limit reading (IsCommandOutput own.0) text status) (one_limit _ command own.0 ask.asked own.1.asked)
+    (from_reader (limit_of own.0) (file_of own.0) reading (IsCommandOutput own.0) text status (one_file _ command own.0 ask.asked own.1.asked ∙ none)
+    (once own.0 reading text status (one_kind _ command own.0 ask.asked own.1.asked ∙ other) own.2)))
+
+handed_live : (words : List (List ℕ)) (command : Asked) (reading : Reading) (text : List ℕ) (status : ℕ) → AskFor words command → file_of command ≡ None → is_live command ≡ true
+    → IsHandedOutput words reading text status → IsInputWanted text status
+handed_live words command reading text status ask none same f =
+    let own = handed words reading text status ask.taken f in
+    wanted own.0 reading text status (one_kind _ command own.0 ask.asked own.1.asked ∙ same) (one_file _ command own.0 ask.asked own.1.asked ∙ none) own.2
+
+same_to : (command : Asked) (reading : Reading) (text other : List ℕ) (status ended : ℕ) → AreSame text status other ended
+    → AreOneAnswerTo reading (AreOneAnswer command) text status other ended
+same_to command Failed text other status ended same = same
+same_to command (Bytes bytes) text other status ended same = as_one command bytes text other status ended same
 
 pub one_handed : OneHandedOutput
-one_handed words command reading text other status ended ask reads f g =
-    one_read (limit_of command) reading (IsCommandOutput command) (AreOneAnswer command) text other status ended
-    (λ bytes. as_one command bytes text other status ended)
-    (λ bytes. one_output command bytes text other status ended)
-    (handed words command reading text status ask reads f)
-    (handed words command reading other ended ask reads g)
+one_handed words command reading text other status ended ask none f g = by (is_live command) refl
+  where
+    by : (b : Bool) → is_live command ≡ b → AreOneAnswerTo reading (AreOneAnswer command) text status other ended
+    by true e =
+        same_to command reading text other status ended
+        (one_wanted text other status ended (handed_live words command reading text status ask none e f) (handed_live words command reading other ended ask none e g))
+    by false e =
+        one_read (limit_of command) reading (IsCommandOutput command) (AreOneAnswer command) text other status ended
+        (λ bytes. as_one command bytes text other status ended)
+        (λ bytes. one_output command bytes text other status ended)
+        (handed_once words command reading text status ask none e f)
+        (handed_once words command reading other ended ask none e g)
 
 -- ---- an input whose first line gives the words
 

@@ -1,5 +1,5 @@
 -- The same bytes have one answer of `replay`.
-use Rattle.std.proofs.Common.{◌≡◌, ◌∙◌, ◌++◌, ◌||◌, ℕ, List, [], ◌∷◌, Bool, true, false, Result, Ok, Err, ap, length, map, refl, subst, sym, ⊎_elim}
+use Rattle.std.proofs.Common.{◌≡◌, ◌∙◌, ◌||◌, ℕ, List, [], ◌∷◌, Bool, true, false, Result, Ok, Err, ap, refl, subst, sym, ⊎_elim}
 use Rattle.std.specs.Prelude.{MatchResult}
 use Rattle.std.specs.List.{list_any}
 use Rattle.wh_dag.specs.Shape.{IsShape}
@@ -15,7 +15,7 @@ use Rattle.wh_text_catalogue.specs.FormulaKinds.{Texts}
 use Rattle.wh_core.proofs.Ones.{replies_are_one}
 use Rattle.wh_core.specs.Log.{Log, logged}
 use Rattle.wh_core.specs.Nights.{Setup}
-use Rattle.wh_core.specs.Replies.{IsMemory, IsReply, IsRunFrom}
+use Rattle.wh_core.specs.Replies.{IsMemory, IsRunFrom}
 use Rattle.wh_core.specs.declared.event.Event.{Event}
 use Rattle.wh_core.specs.declared.reply.Reply.{Reply}
 use Rattle.wh_dag.specs.Shape.{Views}
@@ -23,7 +23,6 @@ use Rattle.wh_load.specs.ReadingNight.{GivenNight, tables_of}
 use Rattle.wh_load.specs.ReadingParts.{parts_in, text_in}
 use Rattle.wh_load.specs.ReadingReplay.{Replay, nights_after, replay_in, replay_of, replay_over, strategies_in}
 use Rattle.wh_text_lines.specs.ScheduleText.{schedule_of}
-use Rattle.wh_row.specs.Bag.{Bag}
 use Rattle.wh_strategy.proofs.Agreeing.{refused as not_correct}
 use Rattle.wh_strategy.specs.declared.rule.Rule.{Rule}
 use Rattle.whview.proofs.SingleFaults.{one_broken, one_shown}

@@ -1,12 +1,12 @@
 -- Words that are taken are of the table.
-use Rattle.std.proofs.Common.{◌≡◌, ◌≤◌, ℕ, arith, codes, refl, sym, subst, false, List, [], ◌∷◌, Option, None, Some}
+use Rattle.std.proofs.Common.{◌≡◌, ◌≤◌, arith, codes, refl, sym, subst, List, [], ◌∷◌, Option, None, Some}
 use Rattle.std.specs.Prelude.{IsSome, IsSomeAnd, find}
 use Rattle.std.specs.List.{AllByRecursion}
 use Rattle.std.specs.Str.{bytes_eq}
 use Rattle.clap.specs.Words.{Row, Text, fault_of, first_of, subcommand_of}
-use Rattle.whview.specs.CommandLine.{Amount, File, Number, Print, Takes, options_of, print_fault, table, whview_app, words_fault, worth}
+use Rattle.whview.specs.CommandLine.{Amount, File, Number, Print, Takes, options_of, print_fault, table, whview_app, worth}
 use Rattle.whview.specs.CommandTaken.{MayBeWorth, TakenWordsAreOfTheTable}
-use Rattle.whview.specs.Inner.CommandLine.{AreTaken, Fits, IsCommand, NamesCommand, check, certify, night, plan, replay}
+use Rattle.whview.specs.Inner.CommandLine.{AreTaken, Fits, IsCommand, NamesCommand, check, certify, live, night, plan, replay}
 use Rattle.whview.proofs.Commands.{faultless_names}
 use Rattle.whview.proofs.LeafRows.{nil_parts}
 use Rattle.whview.proofs.NumberTexts.{number_text}
@@ -54,6 +54,8 @@ command_within found (certify is taken) = named found (codes "certify") is refl 
 command_within found (night is taken) = named found (codes "night") is refl
     ((omega arith, omega arith), ((omega arith, omega arith), ((omega arith, omega arith), (tt, (tt, ((omega arith, omega arith), tt)))))) taken
 command_within found (replay is taken) = named found (codes "replay") is refl (tt, ((omega arith, omega arith), tt)) taken
+command_within found (live is taken) = named found (codes "live") is refl
+    ((omega arith, omega arith), ((omega arith, omega arith), ((omega arith, omega arith), ((omega arith, omega arith), (tt, ((omega arith, omega arith), tt)))))) taken
 
 found_within : (found : Option (Text × List Row)) → NamesCommand found → IsSomeAnd found IsOfTheTable
 found_within None is = is

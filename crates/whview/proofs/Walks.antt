@@ -1,7 +1,6 @@
 -- Two tables that are gone through side by side.
-use Rattle.std.proofs.Common.{◌≡◌, ◌≢◌, ◌∙◌, ◌<◌, ◌≤◌, ◌+◌, ◌++◌, ◌^◌, ℕ, zero, suc, ℤ, pos, neg_ℤ, ◌+ℤ◌, ◌≤ℤ◌, Bool, true, false, cond, List, [], ◌∷◌, Option, Some, None, length, take, ap, arith, refl, subst, sym, ⊎_elim}
-use Rattle.std.specs.Prelude.{◌-ℤ◌, FitsSigned, IfSome, IsSomeAnd, map, slice_get, unsigned_abs}
-use Rattle.std.specs.List.{AllByRecursion}
+use Rattle.std.proofs.Common.{◌≡◌, ◌∙◌, ◌<◌, ◌+◌, ◌++◌, ◌^◌, ℕ, zero, suc, ℤ, pos, neg_ℤ, ◌+ℤ◌, ◌≤ℤ◌, Bool, true, false, cond, [], ◌∷◌, Option, Some, None, length, take, ap, arith, refl, subst, sym, ⊎_elim}
+use Rattle.std.specs.Prelude.{◌-ℤ◌, FitsSigned, IfSome, IsSomeAnd, slice_get, unsigned_abs}
 use Rattle.std.proofs.lemmas.Bool.{cases_lt}
 use Rattle.std.proofs.lemmas.Int.{fits_signed_from_abs, ints, to_z-of_z}
 use Rattle.std.proofs.lemmas.List.{length-append, take-append-le, take_all}
@@ -9,7 +8,7 @@ use Rattle.std.proofs.lemmas.Option.{slice_get_past}
 use mir.Syntax.{w64}
 use mir.Val.{of_z, to_z}
 use Rattle.wh_row.specs.Bag.{Bag, IsTable, count, written}
-use Rattle.wh_row.specs.Records.{EachSumFits, FitsAt, IsFirstTooLarge, running_sum}
+use Rattle.wh_row.specs.Records.{EachSumFits, IsFirstTooLarge, running_sum}
 use Rattle.wh_row.specs.Row.{Row, is_row}
 use Rattle.wh_row.specs.Weigh.{Counted, count_in}
 use Rattle.wh_row.proofs.BagLaws.{count_in-append, count_in-written, each_entry, itself}

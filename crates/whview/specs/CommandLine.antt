@@ -44,6 +44,11 @@ table =
           ∷ (codes "print", Print) ∷ (codes "input", File) ∷ (codes "most", Number 1 1099511627776 usual_limit) ∷ [],
     )
     ∷ (codes "replay", (codes "input", File) ∷ (codes "most", Number 1 1099511627776 usual_limit) ∷ [])
+    ∷ (
+      codes "live",
+      (codes "workers", Number 1 16 1) ∷ (codes "desks", Number 1 16 16) ∷ (codes "versions", Number 2 4 2)
+          ∷ (codes "page-keys", Number 1 256 256) ∷ (codes "input", File) ∷ (codes "most", Number 1 1099511627776 usual_limit) ∷ [],
+    )
     ∷ []
 
 -- the options of the command of this name
@@ -118,6 +123,11 @@ shown (asked.Night how input) = (
       ∷ OfFile (option_map (λ f. f.now) input.file) ∷ OfNumber input.limit ∷ [],
 )
 shown (asked.Replay input) = (codes "replay", OfFile (option_map (λ f. f.now) input.file) ∷ OfNumber input.limit ∷ [])
+shown (asked.Live how input) = (
+  codes "live",
+  OfNumber how.workers ∷ OfNumber how.desks ∷ OfNumber how.versions ∷ OfNumber how.page_keys
+      ∷ OfFile (option_map (λ f. f.now) input.file) ∷ OfNumber input.limit ∷ [],
+)
 
 -- the command that was found in the words, with its options, is asked for
 abbrev pub IsAsked : Option (Text × List Row) → Asked → Type 0

@@ -3,6 +3,7 @@ pub mod Difference
 pub mod FitNight
 pub mod FitReplay
 pub mod Front
+pub mod LiveOutput
 pub mod NightOutput
 pub mod Output
 pub mod StoredClosures

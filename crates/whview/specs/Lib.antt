@@ -4,6 +4,7 @@ pub mod CommandFault
 pub mod CommandLine
 pub mod CommandTaken
 pub mod FirstLine
+pub mod LiveOutput
 pub mod NightOutput
 pub mod OneAnswer
 pub mod Output

@@ -1,6 +1,6 @@
 -- That there is one answer at most: what the texts and statuses that are allowed for one list of words and one list of bytes have in
 -- common.
-use Rattle.std.specs.Prelude.{◌≡◌, ◌⊎◌, ℕ, ◌+◌, ◌^◌, ◌<◌, ◌≤◌, List, length, Ok}
+use Rattle.std.specs.Prelude.{◌≡◌, ◌⊎◌, ℕ, ◌+◌, ◌^◌, ◌<◌, ◌≤◌, List, length, None, Ok}
 use Rattle.wh_cert.specs.declared.certificate.Certificate.{Certificate}
 use Rattle.wh_cert.specs.declared.certificate.Certificate.TheVariants.{Search}
 use Rattle.wh_cert.specs.declared.certificate.Scope.{Scope}
@@ -17,7 +17,7 @@ use Rattle.whview.specs.CertifyOutput.{IsCertifyOutput}
 use Rattle.whview.specs.CheckOutput.{IsCheckOutput}
 use Rattle.whview.specs.FirstLine.{after_first_line, first_line_of, words_in}
 use Rattle.whview.specs.NightOutput.{IsNightOutput}
-use Rattle.whview.specs.Output.{AskFor, Bytes, Failed, IsHandedOutput, IsInputOutput, IsRefused, Reading, ReadsInput}
+use Rattle.whview.specs.Output.{AskFor, Bytes, Failed, IsHandedOutput, IsInputOutput, IsRefused, Reading, file_of}
 use Rattle.whview.specs.PlanOutput.{IsPlanOutput, spent_text}
 use Rattle.whview.specs.ReplayOutput.{IsReplayOutput}
 use Rattle.whview.specs.declared.command_line.Asked.{Asked}
@@ -94,6 +94,7 @@ AreOneAnswer (asked.Plan costs budget input) bytes text status other ended = Are
 AreOneAnswer (asked.Certify costs input) bytes text status other ended = AreSame text status other ended
 AreOneAnswer (asked.Night how input) bytes text status other ended = AreSame text status other ended
 AreOneAnswer (asked.Replay input) bytes text status other ended = AreSame text status other ended
+AreOneAnswer (asked.Live how input) bytes text status other ended = AreSame text status other ended
 
 -- What two answers for the same reading have in common, where this is what two answers for the same bytes have. Of a reader that
 -- failed there is one.
@@ -144,7 +145,7 @@ OneReplayOutput =
 abbrev pub OneHandedOutput : Type 0
 OneHandedOutput =
     (words : List (List ℕ)) (command : Asked) (reading : Reading) (text other : List ℕ) (status ended : ℕ) →
-    AskFor words command → ReadsInput command →
+    AskFor words command → file_of command ≡ None →
     IsHandedOutput words reading text status → IsHandedOutput words reading other ended →
     AreOneAnswerTo reading (AreOneAnswer command) text status other ended
 

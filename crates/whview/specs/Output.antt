@@ -1,11 +1,10 @@
 -- What the program prints for words and what it reads, and the status that it ends with.
-use Rattle.std.specs.Prelude.{◌≡◌, ◌<◌, ◌≤◌, ℕ, List, [], length, Option, None, Some, IfSome, codes, option_map, true, false}
+use Rattle.std.specs.Prelude.{◌≡◌, ◌<◌, ◌≤◌, ℕ, List, [], length, Option, None, Some, IfSome, IsSome, codes, option_map, true, false}
 use Rattle.std.specs.List.{list_any}
 use Rattle.std.specs.Str.{is_utf8}
 use Rattle.clap.specs.Words.{IsAmong, subcommand_of}
 use Rattle.clap.specs.declared.error.kind.ErrorKind.{ErrorKind}
 use Rattle.wh_text.specs.declared.fault.LoadFault.TheVariants as fault
-use Rattle.wh_text_bundle.specs.declared.read.ReadFault.TheVariants.{Read, TooLong}
 use Rattle.whview.specs.CertifyOutput.{IsCertifyOutput}
 use Rattle.whview.specs.CheckOutput.{IsCheckOutput, IsFaultShown, line}
 use Rattle.whview.specs.CommandFault.{status_of_kind}
@@ -20,30 +19,39 @@ use Rattle.whview.specs.declared.command_line.Asked.TheVariants as asked
 
 -- ---- commands
 
--- what a command prints for the bytes of a bundle, and the status
+-- what is printed of `live` where it names no file, and the status
+pub record IsInputWanted (text : List ℕ) (status : ℕ) : Type 0 where
+  pub printed : text ≡ line (codes "error: `live` needs `--input`")
+  pub ended : status ≡ 2
+
+-- what a command prints for the bytes of a bundle, and the status; `live` has no use for them where it names no file
 abbrev pub IsCommandOutput : Asked → List ℕ → List ℕ → ℕ → Type 0
 IsCommandOutput (asked.Check costs input) bytes text status = IsCheckOutput costs bytes text status
 IsCommandOutput (asked.Plan costs budget input) bytes text status = IsPlanOutput costs budget.nodes bytes text status
 IsCommandOutput (asked.Certify costs input) bytes text status = IsCertifyOutput costs bytes text status
 IsCommandOutput (asked.Night how input) bytes text status = IsNightOutput how.print how.readers bytes text status
 IsCommandOutput (asked.Replay input) bytes text status = IsReplayOutput bytes text status
+IsCommandOutput (asked.Live how input) bytes text status = IsInputWanted text status
 
--- the file that the command reads in place of the program's reader
+-- the file that the command reads: in place of the program's reader, or for `live` beside it
 abbrev pub file_of : Asked → Option (List ℕ)
 file_of (asked.Check costs input) = option_map (λ path. path.now) input
 file_of (asked.Plan costs budget input) = option_map (λ path. path.now) input
 file_of (asked.Certify costs input) = option_map (λ path. path.now) input
 file_of (asked.Night how input) = option_map (λ path. path.now) input.file
 file_of (asked.Replay input) = option_map (λ path. path.now) input.file
+file_of (asked.Live how input) = option_map (λ path. path.now) input.file
 
 -- the most bytes that the input of the command may have
 abbrev pub limit_of : Asked → ℕ
 limit_of (asked.Night how input) = input.limit
 limit_of (asked.Replay input) = input.limit
+limit_of (asked.Live how input) = input.limit
 limit_of _ = usual_limit
 
--- the command reads the program's reader
+-- the command reads the program's reader: `live` where it names a file, and any other where it names none
 abbrev pub ReadsInput : Asked → Type 0
+ReadsInput (asked.Live how input) = IsSome (option_map (λ path. path.now) input.file)
 ReadsInput command = file_of command ≡ None
 
 -- ---- answers
@@ -110,10 +118,19 @@ abbrev pub IsSourceAnswer : ℕ → Option (List ℕ) → Reading → (List ℕ 
 IsSourceAnswer limit None reading of text status = IsReadAnswer limit reading of text status
 IsSourceAnswer limit (Some path) reading of text status = HoldsOfFile (λ own. IsReadAnswer limit own of text status)
 
+-- what is printed of `live` where it names this file or none: that it needs one. Where it names one, there is no single answer
+abbrev pub IsUnopened : Option (List ℕ) → List ℕ → ℕ → Type 0
+IsUnopened None text status = IsInputWanted text status
+IsUnopened (Some path) text status = ⊥
+
+-- what is printed of a command that was handed in, and the status, where this was read of the program's reader
+abbrev pub IsAskedOutput : Asked → Reading → List ℕ → ℕ → Type 0
+IsAskedOutput (asked.Live how input) reading text status = IsUnopened (file_of (asked.Live how input)) text status
+IsAskedOutput command reading text status = IsSourceAnswer (limit_of command) (file_of command) reading (IsCommandOutput command) text status
+
 -- what the program prints for words that were handed in, and the status, where this was read of its reader
 abbrev pub IsHandedOutput : List (List ℕ) → Reading → List ℕ → ℕ → Type 0
-IsHandedOutput words reading text status =
-    IsWordsAnswer words (λ command. IsSourceAnswer (limit_of command) (file_of command) reading (IsCommandOutput command)) text status
+IsHandedOutput words reading text status = IsWordsAnswer words (λ command. IsAskedOutput command reading) text status
 
 -- the words ask for a command that reads the program's reader
 abbrev pub AskToRead : List (List ℕ) → Type 0

@@ -15,6 +15,7 @@ mod notes;
 
 use crate::budget::Budget;
 use crate::data_input::{DataInput, USUAL_LIMIT};
+use crate::live_options::LiveOptions;
 use crate::night_options::{NightOptions, Printed};
 use builder::whview_command;
 use clap::ArgMatches;
@@ -36,6 +37,12 @@ const DEFAULT_READERS: usize = 0;
 
 /// How many rows an operation writes at most where the option is not given.
 const DEFAULT_PAGE_KEYS: usize = 256;
+
+/// How many desks a warehouse that stays has where the option is not given.
+const DEFAULT_DESKS: usize = 16;
+
+/// How many versions such a warehouse keeps where the option is not given.
+const DEFAULT_VERSIONS: usize = 2;
 
 /// A command with its options, as the words of a command line ask for it.
 #[derive(Clone, Copy)]
@@ -73,6 +80,13 @@ pub enum Asked<'a> {
     /// Go through the events of a schedule.
     Replay {
         /// The file of the input, and the most bytes that it may have.
+        input: DataInput<'a>,
+    },
+    /// Open a warehouse, and answer commands for as long as they come.
+    Live {
+        /// The size of the warehouse's machine.
+        how: LiveOptions,
+        /// The file that the warehouse is opened from, and the most bytes that it may have.
         input: DataInput<'a>,
     },
 }
@@ -151,6 +165,10 @@ fn asked_of<'a>(matches: &ArgMatches<'a>) -> Asked<'a>
             input: data_input_of(options),
         },
         Some(("replay", options)) => Asked::Replay {
+            input: data_input_of(options),
+        },
+        Some(("live", options)) => Asked::Live {
+            how: live_options_of(options),
             input: data_input_of(options),
         },
         _ => unreachable!(),
@@ -264,5 +282,24 @@ fn night_options_of(options: &ArgMatches<'_>) -> NightOptions
         readers: number(options, "readers", 0, 16, DEFAULT_READERS),
         page_keys: number(options, "page-keys", 1, 256, DEFAULT_PAGE_KEYS),
         print: printed(options),
+    }
+}
+
+/// How large the machine of a warehouse that stays is by the options that `clap` has taken.
+fn live_options_of(options: &ArgMatches<'_>) -> LiveOptions
+    requires workers { Fits (Number 1 16 1) (first_of (codes "workers") (rows_of (found_of options.now))) }
+    requires desks { Fits (Number 1 16 16) (first_of (codes "desks") (rows_of (found_of options.now))) }
+    requires versions { Fits (Number 2 4 2) (first_of (codes "versions") (rows_of (found_of options.now))) }
+    requires page_keys { Fits (Number 1 256 256) (first_of (codes "page-keys") (rows_of (found_of options.now))) }
+    ensures workers { OfNumber result.workers ≡ worth (Number 1 16 1) (first_of (codes "workers") (rows_of (found_of options.now))) }
+    ensures desks { OfNumber result.desks ≡ worth (Number 1 16 16) (first_of (codes "desks") (rows_of (found_of options.now))) }
+    ensures versions { OfNumber result.versions ≡ worth (Number 2 4 2) (first_of (codes "versions") (rows_of (found_of options.now))) }
+    ensures page_keys { OfNumber result.page_keys ≡ worth (Number 1 256 256) (first_of (codes "page-keys") (rows_of (found_of options.now))) }
+{
+    LiveOptions {
+        workers: number(options, "workers", 1, 16, DEFAULT_WORKERS),
+        desks: number(options, "desks", 1, 16, DEFAULT_DESKS),
+        versions: number(options, "versions", 2, 4, DEFAULT_VERSIONS),
+        page_keys: number(options, "page-keys", 1, 256, DEFAULT_PAGE_KEYS),
     }
 }

@@ -1,33 +1,38 @@
 //! Runs the whole program over a source and a sink.
 
-ghost use Rattle.std.specs.Prelude.{◌≡◌, ◌≢◌, ◌<◌, ◌⊎◌, ◌↔◌, ◌++◌, ℕ, List, [], Some, codes, option_map, IfOk, OnOk, MatchResult};
+ghost use Rattle.std.specs.Prelude.{◌≡◌, ◌≢◌, ◌<◌, ◌⊎◌, ◌↔◌, ℕ, List, [], None, Some, option_map, IfOk, IfSome, MatchResult};
 ghost use Rattle.std.specs.Io.KnownBytes.{Appends};
 ghost use Rattle.clap.specs.Walk.{texts};
-ghost use Rattle.wh_stream.specs.Counting.{CountsFault};
-ghost use Rattle.wh_text_tables.specs.Chunks.{chunks_text};
-ghost use Rattle.whview.specs.CheckOutput.{line};
 ghost use Rattle.whview.specs.CommandFault.{status_of, text_of};
 ghost use Rattle.whview.specs.Status.{status_number};
-ghost use Rattle.whview.specs.Output.{AskToRead, HoldsOfFile, HoldsOfReading, IsCommandOutput, IsHandedOutput, IsInputOutput, IsLineAnswer, IsMemoryTold, IsReadAnswer, file_of, limit_of};
-ghost use Rattle.whview.specs.Inner.Output.{IsTold, IsUnreadShown};
+ghost use Rattle.whview.specs.Output.{AskToRead, HoldsOfFile, HoldsOfReading, IsAskedOutput, IsCommandOutput, IsInputOutput, IsInputWanted, IsLineAnswer, IsMemoryTold, IsReadAnswer, ReadsInput, file_of, limit_of};
+ghost use Rattle.whview.specs.LiveOutput.{IsHandedAnswer};
+ghost use Rattle.whview.specs.Inner.LiveOutput.{IsAskedAnswer, IsLiveSo};
+ghost use Rattle.whview.specs.Inner.Output.{IsUnreadShown, OpensNothing, is_live};
 
 use crate::answer::Answer;
 use crate::command_line::{Asked, CommandFault, parse};
 use crate::data_input::USUAL_LIMIT;
+use crate::live::{ToOpen, open_and_talk};
 use crate::status::Status;
+use crate::tell::tell;
 use crate::words::{first_line, refuses_input, refuses_most, words_of_line};
 use crate::{certify, check, night, plan, replay};
 use std::alloc::{AllocError, Global};
 use std::fs::{self, Files};
+use std::str;
 use std::sync::Wait;
 use std::thread::Threads;
-use std::{io, str};
-use wh_load::{LentChunks, LoadFault, ReadFault, read_all};
+use wh_load::{LoadFault, ReadFault, read_all};
 use wh_night::{Gate, NoWatch, Watch};
 use wh_stream::{CountedStream, Sink, Source};
 
-/// What the program ends with where its sink fails.
-const OUTPUT_FAILED: u8 = 5;
+/// The answer of `live` where it names no file.
+fn input_wanted(alloc: Global) -> Result<Answer, AllocError>
+    ensures { IfOk result (λ a. IsInputWanted a.text (status_number a.status)) }
+{
+    Answer::of(alloc, "error: `live` needs `--input`\n", Status::Words)
+}
 
 /// What a command answers for the bytes of a bundle.
 fn command_answer<E: Threads + Wait + Sync, N: Gate + Watch + Sync>(
@@ -45,6 +50,7 @@ fn command_answer<E: Threads + Wait + Sync, N: Gate + Watch + Sync>(
         Asked::Certify { costs, .. } => certify::answer(alloc, *costs, bytes),
         Asked::Night { how, .. } => night::answer(rt, alloc, *how, bytes, watch),
         Asked::Replay { .. } => replay::answer(rt, alloc, bytes),
+        Asked::Live { .. } => input_wanted(alloc),
     }
 }
 
@@ -56,7 +62,9 @@ fn file_of<'a>(asked: &Asked<'a>) -> Option<&'a str>
         Asked::Check { input, .. } | Asked::Plan { input, .. } | Asked::Certify { input, .. } => {
             *input
         }
-        Asked::Night { input, .. } | Asked::Replay { input } => input.file,
+        Asked::Night { input, .. } | Asked::Replay { input } | Asked::Live { input, .. } => {
+            input.file
+        }
     }
 }
 
@@ -65,7 +73,9 @@ fn limit_of(asked: &Asked<'_>) -> usize
     ensures { result ≡ limit_of asked.now }
 {
     match asked {
-        Asked::Night { input, .. } | Asked::Replay { input } => input.limit,
+        Asked::Night { input, .. } | Asked::Replay { input } | Asked::Live { input, .. } => {
+            input.limit
+        }
         Asked::Check { .. } | Asked::Plan { .. } | Asked::Certify { .. } => USUAL_LIMIT,
     }
 }
@@ -141,23 +151,92 @@ fn refusal(alloc: Global, fault: &CommandFault) -> Result<Answer, AllocError>
     }
 }
 
-/// What the program answers for words that were handed in.
-fn words_answer<'a, E: Files + Threads + Wait + Sync, R: Source, N: Gate + Watch + Sync>(
+/// Whether the command is `live`.
+fn is_live(asked: &Asked<'_>) -> bool
+    ensures { result ≡ is_live asked.now }
+{
+    matches!(asked, Asked::Live { .. })
+}
+
+/// The warehouse that a command opens: `live` where it names a file.
+fn opened_by<'a>(asked: &Asked<'a>) -> Option<ToOpen<'a>>
+    ensures how { IfSome result (λ warehouse. IsLiveSo warehouse.how asked.now) }
+    ensures file { IfSome result (λ warehouse. file_of asked.now ≡ Some warehouse.path.now) }
+    ensures limit { IfSome result (λ warehouse. limit_of asked.now ≡ warehouse.limit) }
+    ensures none { result ≡ None → OpensNothing asked.now }
+{
+    match asked {
+        Asked::Live { how, .. } => match file_of(asked) {
+            Some(path) => Some(ToOpen {
+                how: *how,
+                path,
+                limit: limit_of(asked),
+            }),
+            None => None,
+        },
+        _ => None,
+    }
+}
+
+/// What a command answers that was handed in and opens no warehouse.
+fn asked_answer<E: Files + Threads + Wait + Sync, R: Source, N: Gate + Watch + Sync>(
+    rt: &E,
+    alloc: Global,
+    asked: &Asked<'_>,
+    input: &mut R,
+    watch: &N,
+) -> Result<Answer, AllocError>
+    requires { OpensNothing asked.now }
+    ensures answer { IfOk result (λ a. HoldsOfReading (R.remaining input.old) (R.faults input.old) (R.faults input.new) (λ reading. IsAskedOutput asked.now reading a.text (status_number a.status))) }
+    ensures unread { ¬ (ReadsInput asked.now) → input.new ≡ input.old }
+{
+    if is_live(asked) {
+        return input_wanted(alloc);
+    }
+    match file_of(asked) {
+        Some(path) => file_answer(rt, alloc, asked, path, watch),
+        None => read_answer(rt, alloc, asked, input, watch),
+    }
+}
+
+/// Does a command that was handed in, and writes what it comes to. Returns the status, or 5 where the sink fails.
+fn do_asked<E: Files + Threads + Wait + Sync, R: Source, W: Sink, N: Gate + Watch + Sync>(
+    rt: &E,
+    alloc: Global,
+    asked: &Asked<'_>,
+    input: &mut R,
+    out: &mut W,
+    watch: &N,
+) -> u8
+    ensures told { result ≢ 5 → IsAskedAnswer asked.now (R.remaining input.old) (R.faults input.old) (R.faults input.new) (W.contents out.old) (W.contents out.new) result }
+    ensures failed { (result ≡ 5) ↔ (W.faults out.old < W.faults out.new) }
+    ensures unread { ¬ (ReadsInput asked.now) → input.new ≡ input.old }
+{
+    match opened_by(asked) {
+        Some(warehouse) => open_and_talk(rt, alloc, &warehouse, input, out),
+        None => {
+            let answer = asked_answer(rt, alloc, asked, input, watch);
+            tell(out, answer)
+        }
+    }
+}
+
+/// Does what words ask for that were handed in, and writes what it comes to. Returns the status, or 5 where the sink fails.
+fn do_words<'a, E: Files + Threads + Wait + Sync, R: Source, W: Sink, N: Gate + Watch + Sync>(
     rt: &E,
     alloc: Global,
     words: &'a [&'a str],
     input: &mut R,
+    out: &mut W,
     watch: &N,
-) -> Result<Answer, AllocError>
-    ensures answer { IfOk result (λ a. HoldsOfReading (R.remaining input.old) (R.faults input.old) (R.faults input.new) (λ reading. IsHandedOutput (texts words.now) reading a.text (status_number a.status))) }
+) -> u8
+    ensures told { result ≢ 5 → IsHandedAnswer (texts words.now) (R.remaining input.old) (R.faults input.old) (R.faults input.new) (W.contents out.old) (W.contents out.new) result }
+    ensures failed { (result ≡ 5) ↔ (W.faults out.old < W.faults out.new) }
     ensures unread { ¬ (AskToRead (texts words.now)) → input.new ≡ input.old }
 {
     match parse(alloc, words) {
-        Ok(asked) => match file_of(&asked) {
-            Some(path) => file_answer(rt, alloc, &asked, path, watch),
-            None => read_answer(rt, alloc, &asked, input, watch),
-        },
-        Err(fault) => refusal(alloc, &fault),
+        Ok(asked) => do_asked(rt, alloc, &asked, input, out, watch),
+        Err(fault) => tell(out, refusal(alloc, &fault)),
     }
 }
 
@@ -224,67 +303,9 @@ fn input_answer<E: Threads + Wait + Sync, R: Source, N: Gate + Watch + Sync>(
     line_answer_to(rt, alloc, read, watch)
 }
 
-/// Writes chunks, one after another, up to the first at which the sink fails.
-fn put_each<W: Sink>(out: &mut W, chunks: &[Vec<u8>]) -> io::Result<()>
-    ensures bytes { OnOk result (Appends (W.contents out.old) (W.contents out.new) (chunks_text chunks.now)) }
-    ensures faults { CountsFault result (W.faults out.old) (W.faults out.new) }
-{
-    for chunk in chunks {
-        out.put(chunk)?;
-    }
-    Ok(())
-}
-
-/// Writes a text chunk by chunk. Where the sink fails nothing is said of how much went out.
-fn put_text<W: Sink>(out: &mut W, text: LentChunks<'_>) -> io::Result<()>
-    ensures bytes { OnOk result (Appends (W.contents out.old) (W.contents out.new) (chunks_text text.entry.finished.now ++ text.entry.last.now)) }
-    ensures faults { CountsFault result (W.faults out.old) (W.faults out.new) }
-{
-    put_each(out, text.finished)?;
-    out.put(text.last)
-}
-
-/// Writes a text whole: the number of the status, or 5 exactly where the sink fails. Then nothing is said of how much went out.
-fn give<W: Sink>(out: &mut W, text: LentChunks<'_>, status: Status) -> u8
-    ensures given { result ≢ 5 → (result ≡ status_number status) × Appends (W.contents out.old) (W.contents out.new) (chunks_text text.entry.finished.now ++ text.entry.last.now) }
-    ensures failed { (result ≡ 5) ↔ (W.faults out.old < W.faults out.new) }
-{
-    match put_text(out, text) {
-        Ok(()) => status.number(),
-        Err(_) => OUTPUT_FAILED,
-    }
-}
-
-/// Writes the answer where a word of the command line is not UTF-8, as for a first line that is not: `fault words`. Returns 2, or 5 where
-/// the sink fails.
-pub fn words_without_text<W: Sink>(out: &mut W) -> u8
-    ensures told { result ≢ 5 → (result ≡ 2) × Appends (W.contents out.old) (W.contents out.new) (line (codes "fault words")) }
-    ensures failed { (result ≡ 5) ↔ (W.faults out.old < W.faults out.new) }
-{
-    give(out, LentChunks::of(b"fault words\n"), Status::Words)
-}
-
-/// Writes the answer where memory was refused: `memory`. Returns 4, or 5 where the sink fails.
-pub fn want_of_memory<W: Sink>(out: &mut W) -> u8
-    ensures told { result ≢ 5 → (result ≡ 4) × Appends (W.contents out.old) (W.contents out.new) (line (codes "memory")) }
-    ensures failed { (result ≡ 5) ↔ (W.faults out.old < W.faults out.new) }
-{
-    give(out, LentChunks::of(b"memory\n"), Status::Limit)
-}
-
-/// Writes an answer whole, or that memory was refused.
-fn tell<W: Sink>(out: &mut W, answer: Result<Answer, AllocError>) -> u8
-    ensures told { result ≢ 5 → (text : List ℕ) × Appends (W.contents out.old) (W.contents out.new) text × IsTold answer text result }
-    ensures failed { (result ≡ 5) ↔ (W.faults out.old < W.faults out.new) }
-{
-    match answer {
-        Ok(answer) => give(out, answer.text.chunks(), answer.status),
-        Err(AllocError) => want_of_memory(out),
-    }
-}
-
 /// Reads the input, or the file that the words name, and writes the whole text of the program's answer. The words are those of the command
-/// line, without the program's name; where there are none, the first line of the input gives them.
+/// line, without the program's name; where there are none, the first line of the input gives them. `live` opens a warehouse from the file
+/// that its words name, and answers each command of the input as it comes.
 ///
 /// Returns the status. 0 is done, 1 a negative verdict or a night that is refused, and 2 the command line. 3 is a fault of the input, 4
 /// memory or a budget that is spent, and 5 the output.
@@ -300,13 +321,13 @@ pub fn run<'a, E: Files + Threads + Wait + Sync, R: Source, W: Sink>(
     ensures failed { (result ≡ 5) ↔ (W.faults out.old < W.faults out.new) }
 
     // Where the output fails nothing is promised of the text.
-    ensures handed { words.now ≢ [] → result ≢ 5 → (text : List ℕ) × Appends (W.contents out.old) (W.contents out.new) text
-        × (IsMemoryTold text result ⊎ HoldsOfReading (R.remaining input.old) (R.faults input.old) (R.faults input.new) (λ reading. IsHandedOutput (texts words.now) reading text result)) }
+    ensures handed { words.now ≢ [] → result ≢ 5
+        → IsHandedAnswer (texts words.now) (R.remaining input.old) (R.faults input.old) (R.faults input.new) (W.contents out.old) (W.contents out.new) result }
 
     ensures in_line { words.now ≡ [] → result ≢ 5 → (text : List ℕ) × Appends (W.contents out.old) (W.contents out.new) text
         × (IsMemoryTold text result ⊎ HoldsOfReading (R.remaining input.old) (R.faults input.old) (R.faults input.new) (λ reading. IsInputOutput reading text result)) }
 
-    // Words that name a file or are refused leave the reader unread.
+    // Words that are refused leave the reader unread. So does a file that is named, but by `live`, and `live` where none is named.
     ensures unread { words.now ≢ [] → ¬ (AskToRead (texts words.now)) → input.new ≡ input.old }
 {
     run_watched(rt, alloc, words, input, out, &NoWatch)
@@ -324,20 +345,19 @@ pub fn run_watched<
     ensures failed { (result ≡ 5) ↔ (W.faults out.old < W.faults out.new) }
 
     // Where the output fails nothing is promised of the text.
-    ensures handed { words.now ≢ [] → result ≢ 5 → (text : List ℕ) × Appends (W.contents out.old) (W.contents out.new) text
-        × (IsMemoryTold text result ⊎ HoldsOfReading (R.remaining input.old) (R.faults input.old) (R.faults input.new) (λ reading. IsHandedOutput (texts words.now) reading text result)) }
+    ensures handed { words.now ≢ [] → result ≢ 5
+        → IsHandedAnswer (texts words.now) (R.remaining input.old) (R.faults input.old) (R.faults input.new) (W.contents out.old) (W.contents out.new) result }
 
     ensures in_line { words.now ≡ [] → result ≢ 5 → (text : List ℕ) × Appends (W.contents out.old) (W.contents out.new) text
         × (IsMemoryTold text result ⊎ HoldsOfReading (R.remaining input.old) (R.faults input.old) (R.faults input.new) (λ reading. IsInputOutput reading text result)) }
 
-    // Words that name a file or are refused leave the reader unread.
+    // Words that are refused leave the reader unread. So does a file that is named, but by `live`, and `live` where none is named.
     ensures unread { words.now ≢ [] → ¬ (AskToRead (texts words.now)) → input.new ≡ input.old }
 {
     if words.is_empty() {
         let answer = input_answer(rt, alloc, input, watch);
         tell(out, answer)
     } else {
-        let answer = words_answer(rt, alloc, words, input, watch);
-        tell(out, answer)
+        do_words(rt, alloc, words, input, out, watch)
     }
 }

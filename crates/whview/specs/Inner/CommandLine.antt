@@ -19,6 +19,7 @@ pub data IsCommand (found : Text × List Row) : Type 0 where
   certify : found.0 ≡ codes "certify" → AreTaken found.1 (options_of (codes "certify")) → IsCommand found
   night : found.0 ≡ codes "night" → AreTaken found.1 (options_of (codes "night")) → IsCommand found
   replay : found.0 ≡ codes "replay" → AreTaken found.1 (options_of (codes "replay")) → IsCommand found
+  live : found.0 ≡ codes "live" → AreTaken found.1 (options_of (codes "live")) → IsCommand found
 
 -- there is a command, and it is one of the program's
 abbrev pub NamesCommand : Option (Text × List Row) → Type 0

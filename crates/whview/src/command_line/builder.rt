@@ -17,7 +17,8 @@ pub fn whview_command<'a>(alloc: Global) -> Result<Command<'a>, AllocError>
 {
     let planning = planning_command(alloc)?;
     let with_night = planning.subcommand(night_command(alloc)?)?;
-    with_night.subcommand(replay_command(alloc)?)
+    let with_replay = with_night.subcommand(replay_command(alloc)?)?;
+    with_replay.subcommand(live_command(alloc)?)
 }
 
 /// The program with its commands that read no data.
@@ -170,6 +171,60 @@ fn replay_command<'a>(alloc: Global) -> Result<Command<'a>, AllocError>
         )
         .after_help(notes::REPLAY);
     let with_input = named.arg(input_option(alloc))?;
+    with_input.arg(most_option(alloc))
+}
+
+/// The command that keeps a warehouse, with options for the size of its machine.
+fn machine_command<'a>(alloc: Global) -> Result<Command<'a>, AllocError>
+    ensures shape { IfOk result (λ c. app_of c ≡ command_of (codes "live") (take 3 (options_of (codes "live")))) }
+    ensures local { IfOk result (λ c. (out-Command c).has_globals ≡ false) }
+{
+    let workers = number_option(
+        alloc,
+        "workers",
+        1,
+        16,
+        "How many workers the warehouse has, and threads that open it, 1 to 16 [default: 1]",
+    );
+    let desks = number_option(
+        alloc,
+        "desks",
+        1,
+        16,
+        "How many desks the warehouse has, 1 to 16 [default: 16]",
+    );
+    let versions = number_option(
+        alloc,
+        "versions",
+        2,
+        4,
+        "How many versions are kept, 2 to 4 [default: 2]",
+    );
+    let named = Command::new(alloc, "live")
+        .about(
+            "Keeps a warehouse and answers commands, a line each, for as long as they come. Opens it from a file with the catalogue and the data, and the strategy of nights that write none.",
+        )
+        .after_help(notes::LIVE);
+    let with_workers = named.arg(workers)?;
+    let with_desks = with_workers.arg(desks)?;
+    with_desks.arg(versions)
+}
+
+/// The command `live`: its options for the size of the machine, for the rows of a page, and for the opening's file and length.
+fn live_command<'a>(alloc: Global) -> Result<Command<'a>, AllocError>
+    ensures shape { IfOk result (λ c. app_of c ≡ command_of (codes "live") (options_of (codes "live"))) }
+    ensures local { IfOk result (λ c. (out-Command c).has_globals ≡ false) }
+{
+    let page_keys = number_option(
+        alloc,
+        "page-keys",
+        1,
+        256,
+        "How many rows are written at a time, 1 to 256 [default: 256]",
+    );
+    let machine = machine_command(alloc)?;
+    let with_page_keys = machine.arg(page_keys)?;
+    let with_input = with_page_keys.arg(input_option(alloc))?;
     with_input.arg(most_option(alloc))
 }
 

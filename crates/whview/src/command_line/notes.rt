@@ -3,9 +3,11 @@
 /// The end of the program's help.
 pub const PROGRAM: &str =
     "Each command reads a bundle: one text of several parts, each of which begins with a line like
-@catalogue. 'whview COMMAND --help' has the command's options and statuses.
+@catalogue. 'whview COMMAND --help' has the command's options and statuses. The command live
+reads its bundle from a file, and answers commands from standard input.
 
-Where no words are given, the first line of standard input has them, without --input.
+Where no words are given, the first line of standard input has them, without --input. The
+command live cannot stand there.
 
 Example:
   whview night --input examples/night_shop.bundle";
@@ -68,3 +70,19 @@ pub const REPLAY: &str = "Ends with:
 
 Example:
   whview replay --input examples/replay_two_nights.bundle";
+
+/// The end of the help of `live`.
+pub const LIVE: &str =
+    "Reads commands from standard input: 'night' and the night's parts up to '@end', 'commit', 'giveup',
+'open D', 'read D VIEW LIMIT', 'close D' and 'quit'.
+
+Ends with:
+  0  the commands are at their end, also where some are refused
+  1  the opening contents are refused
+  2  these words are not taken, or no file is named
+  3  the file has a fault, or a read of the commands failed
+  4  memory was refused
+  5  the output failed
+
+Example:
+  whview live --input examples/live_shop.bundle";

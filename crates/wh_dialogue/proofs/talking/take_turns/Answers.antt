@@ -56,6 +56,9 @@ returns-in-Some-clause-told g c = λ write s log is h.
 pub returns-in-Some-clause-flushed : goal.returns-in-Some-clause-flushed
 returns-in-Some-clause-flushed g c = λ none write. c.in-Some.ensures.flushed (c.loop-turn.invariant.flushed none) (λ e. write (some_same c.in-Some.end ends.Write e))
 
+pub returns-in-Some-clause-faultless : goal.returns-in-Some-clause-faultless
+returns-in-Some-clause-faultless g c = λ write. c.in-Some.ensures.faultless (λ e. write (some_same c.in-Some.end ends.Write e)) ∙ c.loop-turn.invariant.written
+
 pub loop-turn-preserved : goal.loop-turn-preserved
 loop-turn-preserved g c = record {
   live = c.answer_line.ensures.live;

@@ -1,4 +1,4 @@
-use Rattle.std.proofs.Common.{◌≡◌, ◌∙◌, ap, codes, map, refl, subst, sym, List, [], ◌∷◌, Option, Some, None}
+use Rattle.std.proofs.Common.{◌≡◌, ◌∙◌, ap, codes, map, refl, sym, List, [], ◌∷◌, Option, Some, None}
 use Rattle.std.specs.Prelude.{option_map}
 use Rattle.clap.specs.Words.{Row, Text, first_of, found_of, rows_of, subcommand_name_of, subcommand_rows_of}
 use Rattle.clap.specs.declared.parser.matches.ArgMatches.{ArgMatches}
@@ -6,7 +6,7 @@ use Rattle.clap.specs.declared.parser.matches.ArgMatches.TheViews.{out-ArgMatche
 use Rattle.clap.proofs.WalkLemmas.{first_value-rows}
 use Rattle.whview.specs.CommandLine.{IsAsked, OfFile, options_of, shown, worth}
 use Rattle.whview.specs.declared.command_line.Asked.{Asked}
-use Rattle.whview.specs.declared.command_line.Asked.TheVariants.{Certify, Check, Night, Plan, Replay}
+use Rattle.whview.specs.declared.command_line.Asked.TheVariants.{Certify, Check, Live, Night, Plan, Replay}
 use Rattle.whview.proofs.command_line.asked_of.Goals as goal
 
 fused : {X Y Z : Type 0} (f : Y → Z) (g : X → Y) (o : Option X) → option_map (λ x. f (g x)) o ≡ option_map f (option_map g o)
@@ -66,3 +66,12 @@ returns-in-Some-replay-default c =
     asked_by (subcommand_rows_of c.args.matches.now) (codes "replay") (rows_of (found_of options)) (Replay input.result)
     (ap Some (sym c.in-Some-replay-default.is-replay) ∙ c.in-Some-replay-default.ensures.name ∙ named c.args.matches.now) c.in-Some-replay-default.ensures.rows refl
     (λ i. sym input.ensures.file i ∷ sym input.ensures.limit i ∷ [])
+
+pub returns-in-Some-live-default : goal.returns-in-Some-live-default
+returns-in-Some-live-default c =
+    let options = c.in-Some-live-default.options.now in
+    let input = c.data_input_of-in-Some-live-default in
+    let how = c.live_options_of.ensures in
+    asked_by (subcommand_rows_of c.args.matches.now) (codes "live") (rows_of (found_of options)) (Live c.live_options_of.result input.result)
+    (ap Some (sym c.in-Some-live-default.is-live) ∙ c.in-Some-live-default.ensures.name ∙ named c.args.matches.now) c.in-Some-live-default.ensures.rows refl
+    (λ i. sym how.workers i ∷ sym how.desks i ∷ sym how.versions i ∷ sym how.page_keys i ∷ sym input.ensures.file i ∷ sym input.ensures.limit i ∷ [])

@@ -1,5 +1,5 @@
-use Rattle.std.proofs.Common.{◌≡◌, ◌∙◌, arith, ap, Option}
-use Rattle.clap.specs.Words.{Text, found_of}
+use Rattle.std.proofs.Common.{◌∙◌, arith, ap}
+use Rattle.clap.specs.Words.{found_of}
 use Rattle.clap.proofs.WalkLemmas.{first_value-rows}
 use Rattle.whview.specs.CommandLine.{Number, OfNumber, worth}
 use Rattle.whview.proofs.NumberTexts.{found_within}

@@ -1,4 +1,4 @@
-use Rattle.std.proofs.Common.{◌≡◌, ◌∙◌, ◌⊎◌, ap, inl, inr, map, subst, sym, true, List, [], ◌∷◌, Option, Result, Ok, Err}
+use Rattle.std.proofs.Common.{◌≡◌, ◌∙◌, ap, inl, inr, map, subst, sym, true, List, [], ◌∷◌, Option, Result, Ok, Err}
 use Rattle.std.specs.Prelude.{IfErr, IfOk, MatchResult}
 use Rattle.clap.specs.Kinds.{or_else}
 use Rattle.clap.specs.Words.{App, HasKind, Kinds, Row, Text, fault_of, is_simple, is_simple_and_free, subcommand_of, subcommand_rows_of, takes}

@@ -1,5 +1,5 @@
 use Rattle.std.proofs.Common.{◌≡◌, ◌⊎◌, inl, inr, refl, subst, sym, [], ◌∷◌}
-use Rattle.clap.specs.Words.{Kinds, subcommand_rows_of}
+use Rattle.clap.specs.Words.{Kinds}
 use Rattle.clap.specs.declared.error.kind.ErrorKind.TheVariants.{InvalidValue}
 use Rattle.whview.specs.CommandFault.{FailsAs, status_of, status_of_kind}
 use Rattle.whview.specs.declared.command_line.fault.CommandFault.{CommandFault}

@@ -1,4 +1,4 @@
-use Rattle.std.proofs.Common.{◌≡◌, ◌∙◌, [], ap, length, map, subst}
+use Rattle.std.proofs.Common.{◌∙◌, [], ap, length, map, subst}
 use Rattle.wh_core.specs.Headline.{ComesTrue}
 use Rattle.wh_core.specs.Replies.{IsLegalRun}
 use Rattle.wh_core.specs.Standing.{StandsWith, nights_of}

@@ -1,4 +1,4 @@
-use Rattle.std.proofs.Common.{◌≡◌, ◌∙◌, Err, ap, sym}
+use Rattle.std.proofs.Common.{◌∙◌, Err, ap, sym}
 use Rattle.wh_row.proofs.BagLaws.{count-bag_of, count-difference_of, same_bag}
 use Rattle.whview.proofs.Walks.{never_large}
 use Rattle.whview.proofs.night.difference.difference.Goals as goal

@@ -1,4 +1,4 @@
-use Rattle.std.proofs.Common.{◌≡◌, ◌∙◌, ap, drop, neg_ℤ, rules, subst, sym, w64, FitsSigned, pos, ◌≤ℤ◌}
+use Rattle.std.proofs.Common.{◌∙◌, ap, drop, neg_ℤ, rules, subst, sym, w64, FitsSigned, pos, ◌≤ℤ◌}
 use Rattle.std.specs.Prelude.{◌-ℤ◌}
 use Rattle.std.specs.Ordering.{is_eq}
 use Rattle.wh_row.proofs.BagLaws.{same_row}

@@ -1,8 +1,8 @@
-use Rattle.std.proofs.Common.{◌≡◌, ◌≢◌, ◌∙◌, ◌+◌, ◌<◌, ◌∷◌, [], ap, arith, length, map, refl, subst, sym}
+use Rattle.std.proofs.Common.{◌≡◌, ◌∙◌, ◌+◌, ◌∷◌, [], ap, arith, length, map, refl, subst, sym}
 use Rattle.std.proofs.lemmas.List.{length-append, length-map}
 use Rattle.std.proofs.lemmas.Option.{slice_get_read}
 use Rattle.wh_maint.specs.Comp.{bag_at}
-use Rattle.wh_row.specs.Bag.{Bag, IsTable, difference_of}
+use Rattle.wh_row.specs.Bag.{IsTable, difference_of}
 use Rattle.wh_text_catalogue.specs.Definitions.{shown_view}
 use Rattle.whview.proofs.DerivedBags.{all_below, at_place, from_place, item_at, one_more}
 use Rattle.whview.proofs.night.shown.changes.Goals as goal

@@ -1,7 +1,7 @@
 use Rattle.std.proofs.Common.{◌≡◌, take}
 use Rattle.std.specs.Io.KnownBytes.{Appends}
 use Rattle.wh_text_tables.specs.Chunks.{chunks_text}
-use Rattle.whview.proofs.program.put_each.Given as goal
+use Rattle.whview.proofs.tell.put_each.Given as goal
 
 abbrev pub invariant-loop-chunk : goal.invariant-loop-chunk
 invariant-loop-chunk g l =
