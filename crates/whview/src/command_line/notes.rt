@@ -85,4 +85,4 @@ Ends with:
   5  the output failed
 
 Example:
-  whview live --input examples/live_shop.bundle";
+  whview live --input examples/live_shop.opening";
