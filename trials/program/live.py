@@ -1,0 +1,361 @@
+"""Draws warehouses that stay and streams of commands over them, and compares what `whview live` answers over pipes with a machine of its own.
+
+Openings and commands are drawn by trials/drawn/dialogues.py: nights that follow one another, commits, give-ups, what desks do in any order,
+lines that are blank or unknown, and nights that are refused, for a fault, a broken strategy, rows that are not there, or since one is open.
+trials/oracle/dialogue.py says what each command is answered: to the machine of trials/oracle/machine.py a night is a Begin, and then what one
+worker and the pages do as far as they go. A page is compared as a table, byte for byte. `quit` stands amid the input, or the input ends behind
+a command, amid a night, or amid the last line.
+
+Each stream is written in steps: a command in pieces, each read before the next one is written, and then its whole answer is waited for before
+the next command comes. It is written a second time in pieces that end anywhere, a few of them at each byte. The answers are the same by 1 to
+4 workers. Before that, and alone with `--selftest`, falsified dialogues and machines of trials/spoilt/dialogues.py have to answer one of the
+first drawn streams in another way, and programs that answer at the wrong time have to be noticed. Beside the streams stand runs that do not
+open, or whose output nobody takes. `--soak` goes on drawing for so many seconds.
+"""
+
+import contextlib
+import os
+import pickle
+import random
+import signal
+import subprocess
+import tempfile
+import time
+from collections import Counter
+from concurrent.futures import ProcessPoolExecutor
+from itertools import count as counted
+from pathlib import Path
+
+from trials.drawn.dialogues import Talk, Worked
+from trials.ended import ended, told
+from trials.oracle.dialogue import Dialogue
+from trials.oracle.machine import Machine
+from trials.program.talkers import Late, Talker
+from trials.spoilt import talkers
+from trials.spoilt.dialogues import FALSIFIED_DIALOGUES, FALSIFIED_MACHINES, UNTOLD
+from trials.spoilt.machines import FALSIFIED
+from upkeep.words import program, words_with_program
+
+COUNT, SEED, NOTICED, BLOCK, TOGETHER = 400, 20261201, 400, 20, 2
+# Streams of at most so many bytes are cut at every byte too; every so manieth comes by each number of workers.
+FEW, EACH = 500, 8
+SOON = 2
+REFUSALS = "NoSession SessionOpen NoView NoDesk Limit NightOpen NoNight NotReady Large Range Absent".split()
+KINDS = ["begun", "job", "done", "paged", "ready", "version", "session", "closed", "unknown", "page end", "page more", "expired active", "expired idle", "broken"]
+KINDS += [f"refused {name}" for name in REFUSALS] + [f"fault {name}" for name in ("part", "header", "csv", "number", "strategy")]
+KINDS += [f"end {end}" for end in ("quit", "end", "amid", "begun", "unended")] + ["refused range", "refused large", "quiet", "each byte"]
+
+
+def kinds_of(command, answer):
+    """The kinds of an answer: those of its lines or, of a page, whether it is the last."""
+    if command.split()[:1] == [b"read"] and answer.startswith("#,"):
+        return [f"page {answer.splitlines()[-1]}"]
+    lines = [line.split() for line in answer.splitlines()] or [["quiet"]]
+    wide = {"refused": lambda words: words[:2], "fault": lambda words: words[:2], "expired": lambda words: [words[0], words[-1]]}
+    return [" ".join(wide.get(words[0], lambda words: words[:1])(words)) for words in lines]
+
+
+# ---- one stream
+
+
+def cut(source, given, most):
+    """The pieces that some drawn places cut this into, each with a byte at least."""
+    places = sorted(source.sample(range(1, len(given)), min(source.randint(0, most), len(given) - 1))) if given else []
+    return [given[start:end] for start, end in zip([0, *places], [*places, len(given)])]
+
+
+def in_pieces(talker, talk, source):
+    """Writes the whole stream in pieces that end anywhere; some are read before the next one is written."""
+    for piece in cut(source, talk.bytes, 12):
+        talker.give(piece)
+        if source.random() < 0.7:
+            talker.are_read()
+
+
+def at_each_byte(talker, talk, _):
+    for byte in talk.bytes:
+        talker.give(bytes([byte]))
+        talker.are_read()
+
+
+def in_steps(talker, talk, source):
+    """Writes each command, and waits for its whole answer before the next one."""
+    done, unended = "", talk.end == "unended" and len(talk.commands)
+    for number, (command, answer) in enumerate(zip(talk.commands, talk.answers), 1):
+        *pieces, last = cut(source, command, 3)
+        for piece in pieces:
+            talker.give(piece)
+            talker.are_read()
+        talker.drain()
+        if len(talker.said) > len(done.encode()):
+            raise Late(f"before its end {shortened(command)} is answered {shown(talker.said[len(done.encode()) :])}")
+        if number == unended:
+            talker.give(last.removesuffix(b"\n"))
+            break
+        talker.give(last)
+        talker.wait_for(len((done + answer).encode()))
+        if talker.said != (done + answer).encode():
+            raise Late(f"{shortened(command)} is answered {shown(talker.said[len(done.encode()) :])}, and by the rules {answer!r}")
+        done += answer
+    talker.give(talk.behind)
+
+
+def run(words, talk, way, source, patience=60):
+    """What is wrong with the answers of a run, or None."""
+    try:
+        with Talker(words, patience) as talker:
+            if not talk.refused:
+                way(talker, talk, source)
+            if talk.end != "quit" or way is not in_steps:
+                talker.close()
+            said, status, errors = talker.ended()
+    except Late as late:
+        return str(late)
+    text, wanted = talk.answer
+    if (said, status, errors) == (text.encode(), wanted, b""):
+        return None
+    common = next((at for at, (one, other) in enumerate(zip(said, text.encode())) if one != other), min(len(said), len(text.encode())))
+    return (f"status {status} for {wanted}, on standard error {errors[:200]}, and from byte {common} on {shown(said[common:])} where the rules say "
+            f"{shown(text.encode()[common:])}")
+
+
+def shown(text):
+    return repr(text[:200].decode(errors="replace"))
+
+
+def shortened(given):
+    """A stream as it can be shown: long lines are cut."""
+    return "\n".join(line[:300] for line in given.decode(errors="replace").split("\n"))
+
+
+def ways(number, talk):
+    """How a stream is written, and by how many workers."""
+    yield in_steps, 1 + number % 4
+    for workers in range(1, 5) if number % EACH == 0 else [1 + number // 4 % 4]:
+        yield in_pieces, workers
+    if len(talk.bytes) <= FEW and not talk.refused:
+        yield at_each_byte, 1 + number % 4
+
+
+def tried(started, seed, numbers):
+    """The mistakes of the program over these streams, and how often there was each kind of answer."""
+    wrong, kinds = [], Counter()
+    with tempfile.NamedTemporaryFile() as file:
+        for number in numbers:
+            talk = Talk(f"{seed} {number}") if number else Worked()
+            file.seek(0)
+            file.truncate()
+            file.write(talk.opening)
+            file.flush()
+            kinds.update(kinds_of_talk(talk))
+            for way, workers in ways(number, talk):
+                kinds[" ".join(way.__name__.split("_")[1:])] += 1
+                words = ["live", "--input", file.name, *talk.words, *(["--workers", str(workers)] if workers > 1 else [])]
+                if said := run([started, *words], talk, way, random.Random(f"{seed} {number} {workers}")):
+                    wrong.append(f"stream {number} {way.__name__} by {words}: {said}\nfor\n{shortened(talk.opening)}\nand\n{shortened(talk.bytes)}")
+    return wrong, kinds
+
+
+def kinds_of_talk(talk):
+    if talk.refused:
+        return [" ".join(talk.refused.split()[:2])]
+    return [kind for couple in zip(talk.commands, talk.answers) for kind in kinds_of(*couple)] + [f"end {talk.end}"]
+
+
+# ---- all streams
+
+
+def compared(started, seed, blocks):
+    """The mistakes over these blocks of streams, and the counts of all kinds."""
+    wrong, kinds, number = [], Counter(), 0
+    with ProcessPoolExecutor(TOGETHER) as workers:
+        for texts, counts in workers.map(tried, *zip(*((started, seed, block) for block in blocks))):
+            wrong += texts
+            kinds += counts
+            number += BLOCK
+    return wrong, kinds, number
+
+
+def blocks_of(count, begin=0):
+    return [range(begun, min(begun + BLOCK, begin + count)) for begun in range(begin, begin + count, BLOCK)]
+
+
+def drawn(started, count, seed):
+    wrong, kinds, _ = compared(started, seed, blocks_of(count))
+    lacking = [f"no answer is of the kind '{kind}'" for kind in KINDS if not kinds[kind]]
+    told(wrong[:5] + lacking)
+    print("answers: " + ", ".join(f"{kinds[kind]} {kind}" for kind in KINDS))
+    ended("streams", count, len(wrong))
+    return wrong + lacking
+
+
+def soaked(started, seed, seconds):
+    """Goes on drawing until the time is up, or until something is wrong."""
+    until, number, wrong = time.monotonic() + seconds, 0, []
+    for begin in counted(0, BLOCK * TOGETHER):
+        if time.monotonic() > until or wrong:
+            break
+        wrong, _, done = compared(started, seed, blocks_of(BLOCK * TOGETHER, begin))
+        number += done
+    told(wrong[:5])
+    return ended("soaked streams", number, len(wrong))
+
+
+# ---- runs that do not open, and an output that nobody takes
+
+CATALOGUE = b'@catalogue\n[[view]]\nname = "a"\ncolumns = ["x"]\n[[view]]\nname = "v"\nover = ["a"]\nkeep = [["x", ["+", "a.x", 1]]]\n'
+DATA = b"@data a\nx\n1\n"
+OPENINGS = [
+    (b"", "fault part catalogue", 3),
+    (b"no bundle\n", "fault part text", 3),
+    (b"\x00\xff\n", "fault part text", 3),
+    (b"@catalogue\n[[", "fault toml", 3),
+    (b'@catalogue\n[[view]]\nname = "a"\n', "fault key columns", 3),
+    (CATALOGUE + CATALOGUE, "fault part catalogue", 3),
+    (CATALOGUE + b"@night\n", "fault part night", 3),
+    (CATALOGUE + b"@zz\n" + DATA, "fault part zz", 3),
+    (CATALOGUE + DATA + b"@changes a\n#,x\n", "fault part changes", 3),
+    (CATALOGUE + b"@schedule\ndesks 1\nworkers 1\nkeys 1\n", "fault part schedule", 3),
+    (CATALOGUE + b"@data v\nx\n1\n", "fault part data", 3),
+    (CATALOGUE + b"@data a\ny\n1\n", "fault header", 3),
+    (CATALOGUE + DATA + b"1,2\n", "fault csv 3", 3),
+    (CATALOGUE + DATA + b"x\n", "fault number 3", 3),
+    (CATALOGUE + DATA + b"@strategy\ninst a\ninst\n", "fault strategy 2", 3),
+    (CATALOGUE + b"@data a\nx\n9223372036854775807\n", "refused range v", 1),
+    (CATALOGUE + b"@data a\n#,x\n72057594037927937,1\n", "refused large v", 1),
+    (CATALOGUE + DATA + b"@strategy\ninst v\n", "version 0", None),
+]
+# Words behind `live`, and what is printed, where that is the program's own and not the parser's of the command line.
+WORDS = [
+    ([], "error: `live` needs `--input`"),
+    (["--workers", "2"], "error: `live` needs `--input`"),
+    *((words.split(), None) for words in (
+        "--input", "--input {file} --input {file}", "--input {file} --workers 0", "--input {file} --workers 17", "--input {file} --workers x", "--input {file} --desks 0",
+        "--input {file} --desks 17", "--input {file} --versions 1", "--input {file} --versions 5", "--input {file} --page-keys 0", "--input {file} --page-keys 257",
+        "--input {file} --most 0", "--input {file} --readers 1", "--input {file} --print tables", "--input {file} --workers 2 --workers 2", "{file}", "--zz")),
+]
+
+
+def answer(words, given):
+    ran = subprocess.run(words, input=given, capture_output=True, timeout=60)
+    return ran.stdout.decode(errors="replace"), ran.returncode, ran.stderr
+
+
+def unopened(started, file):
+    """What is wrong with the answers to openings that are none, and to words that are not taken."""
+    for opening, text, status in OPENINGS:
+        file.write_bytes(opening)
+        wanted = ("".join(f"{line}\n" for line in (["session 0", "closed"] if status is None else [text])), status or 0, b"")
+        got = answer([started, "live", "--input", str(file)], b"open 0\nclose 0\n")
+        yield None if got == wanted else f"an opening answered {got} where {wanted} is wanted:\n{opening.decode(errors='replace')}"
+    got = answer([started, "live", "--input", f"{file}.none"], b"open 0\n")
+    yield None if got == ("fault read\n", 3, b"") else f"a file that is not there answered {got}"
+    for most in (len(OPENINGS[-1][0]), len(OPENINGS[-1][0]) - 1):
+        got = answer([started, "live", "--input", str(file), "--most", str(most)], b"")
+        wanted = ("", 0, b"") if most == len(OPENINGS[-1][0]) else ("fault toolong\n", 3, b"")
+        yield None if got == wanted else f"--most {most} answered {got}"
+    for words, text in WORDS:
+        got, status, errors = answer([started, "live", *(word.replace("{file}", str(file)) for word in words)], b"open 0\n")
+        yield None if (status, errors) == (2, b"") and got and text in (None, got.removesuffix("\n")) else f"live {words} answered {got} with status {status}"
+    got = answer([started], b"live\nopen 0\n")
+    yield None if got == (f"{WORDS[0][1]}\n", 2, b"") else f"live on the first line answered {got}"
+
+
+def unheard(words):
+    """The status where the output is closed, and the input stays open."""
+    with Talker(words) as talker:
+        talker.process.stdout.close()
+        talker.process.stdin.write(b"open 0\nread 0 a 1\n" * 100)
+        with contextlib.suppress(subprocess.TimeoutExpired):
+            return talker.process.wait(talker.patience)
+    return "none, since it does not end"
+
+
+def untaken(started, file):
+    """What is wrong where nobody takes the output, or where nothing can be read."""
+    file.write_bytes(CATALOGUE + DATA)
+    words = [started, "live", "--input", str(file)]
+    yield None if (status := unheard(words)) in (5, -signal.SIGPIPE) else f"where nobody takes the output the status is {status}"
+    with open("/dev/full", "wb") as full:
+        status = subprocess.run(words, input=b"open 0\n", stdout=full, timeout=60).returncode
+    yield None if status == 5 else f"where the output is full the status is {status}"
+    with open("/dev/full", "wb") as full:
+        status = subprocess.run(words, input=b"\nquit\n", stdout=full, timeout=60).returncode
+    yield None if status == 0 else f"where nothing is to be written to a full output the status is {status}"
+    folder = os.open("/", os.O_RDONLY)
+    ran = subprocess.run(words, stdin=folder, capture_output=True, timeout=60)
+    os.close(folder)
+    yield None if (ran.stdout, ran.returncode, ran.stderr) == (b"fault read\n", 3, b"") else f"where nothing can be read {ran} is answered"
+
+
+def apart(started):
+    with tempfile.TemporaryDirectory() as name:
+        found = [*unopened(started, Path(name) / "opening"), *untaken(started, Path(name) / "opening")]
+    wrong = list(filter(None, found))
+    told(wrong)
+    ended("runs apart", len(found), len(wrong))
+    return wrong
+
+
+# ---- what is wrong by design
+
+
+def differs(talk, dialogue, machine):
+    """Whether a falsified dialogue gives another answer, or none."""
+    try:
+        it = dialogue(talk.opening.decode(), talk.how, machine)
+        return [it.answer(command) for command in talk.commands] != talk.answers
+    except (IndexError, KeyError, TypeError, AttributeError):
+        return True
+
+
+def unnoticed(seed, talks):
+    """The falsified ones that no stream notices."""
+    for kind in [*FALSIFIED_DIALOGUES, *FALSIFIED_MACHINES]:
+        couple = (kind, Machine) if kind in FALSIFIED_DIALOGUES else (Dialogue, kind)
+        for number in range(NOTICED):
+            if number == len(talks):
+                talks.append(Talk(f"{seed} {number}"))
+            if not talks[number].refused and differs(talks[number], *couple):
+                break
+        else:
+            yield f"{NOTICED} streams do not notice that {kind.__name__}"
+
+
+def untimely(talk):
+    """What is not noticed of programs that answer rightly, but at the wrong time; one that does it right is not to be blamed."""
+    with tempfile.NamedTemporaryFile() as file:
+        file.write(pickle.dumps([(command, answer.encode()) for command, answer in zip(talk.commands, talk.answers)]))
+        file.flush()
+        if blamed := run(talkers.words_for(talkers.right, file.name), talk, in_steps, random.Random(0)):
+            yield f"a right program is blamed: {blamed}"
+        for does in talkers.UNTIMELY:
+            if not run(talkers.words_for(does, file.name), talk, in_steps, random.Random(0), SOON):
+                yield f"nothing tells that a program answers {does.__name__.replace('_', ' ')}"
+
+
+def selftest(seed):
+    talks = [Worked()]
+    wrong = ["the dialogue answers the worked stream in another way"] if differs(talks[0], Dialogue, Machine) else []
+    wrong += [f"there is no {name}" for name in UNTOLD if name not in {kind.__name__ for kind in FALSIFIED}]
+    wrong += unnoticed(seed, talks)
+    plain = next(talk for talk in talks if talk.end == "end" and sum(map(bool, talk.answers)) > 9 and len(talk.bytes) < 5000 and not talk.refused)
+    wrong += untimely(plain)
+    told(wrong)
+    falsified = len(FALSIFIED_DIALOGUES) + len(FALSIFIED_MACHINES)
+    print(f"falsified dialogues and machines: {falsified}, noticed within {len(talks)} streams; untimely programs: {len(talkers.UNTIMELY)}; {len(wrong)} failed", flush=True)
+    return wrong
+
+
+def main():
+    words = words_with_program(__doc__, COUNT, SEED)
+    words.add_argument("--selftest", action="store_true", help="tries the dialogues and the draw alone")
+    words.add_argument("--soak", type=float, metavar="SECONDS", help="draws for so long, and does nothing else")
+    asked = words.parse_args()
+    if asked.selftest:
+        return 1 if selftest(SEED) else 0
+    started = program(asked.program)
+    if asked.soak:
+        return soaked(started, asked.seed, asked.soak)
+    wrong = selftest(asked.seed) + apart(started)
+    return 1 if drawn(started, asked.count, asked.seed) + wrong else 0
