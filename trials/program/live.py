@@ -13,33 +13,31 @@ first drawn streams in another way, and programs that answer at the wrong time h
 open, or whose output nobody takes. `--soak` goes on drawing for so many seconds.
 """
 
-import contextlib
 import os
 import pickle
 import random
-import signal
-import subprocess
 import tempfile
 import time
 from collections import Counter
 from concurrent.futures import ProcessPoolExecutor
 from itertools import count as counted
-from pathlib import Path
 
 from trials.drawn.dialogues import Talk, Worked
 from trials.ended import ended, told
 from trials.oracle.dialogue import Dialogue
 from trials.oracle.machine import Machine
-from trials.program.talkers import Late, Talker
+from trials.program.talkers import SECONDS, Late, Talker
+from trials.program.unopened import apart
 from trials.spoilt import talkers
 from trials.spoilt.dialogues import FALSIFIED_DIALOGUES, FALSIFIED_MACHINES, UNTOLD
 from trials.spoilt.machines import FALSIFIED
 from upkeep.words import program, words_with_program
 
-COUNT, SEED, NOTICED, BLOCK, TOGETHER = 400, 20261201, 400, 20, 2
+COUNT, SEED, NOTICED, BLOCK, TOGETHER = 2000, 20261201, 400, 20, 2
 # Streams of at most so many bytes are cut at every byte too; every so manieth comes by each number of workers.
 FEW, EACH = 500, 8
-SOON = 2
+# How long untimely programs are waited for, and how long for what comes too soon.
+SOON, PAUSE = 2, 0.03
 REFUSALS = "NoSession SessionOpen NoView NoDesk Limit NightOpen NoNight NotReady Large Range Absent".split()
 KINDS = ["begun", "job", "done", "paged", "ready", "version", "session", "closed", "unknown", "page end", "page more", "expired active", "expired idle", "broken"]
 KINDS += [f"refused {name}" for name in REFUSALS] + [f"fault {name}" for name in ("part", "header", "csv", "number", "strategy")]
@@ -80,46 +78,48 @@ def at_each_byte(talker, talk, _):
 
 def in_steps(talker, talk, source):
     """Writes each command, and waits for its whole answer before the next one."""
-    done, unended = "", talk.end == "unended" and len(talk.commands)
+    done, last = b"", len(talk.commands) if talk.end == "unended" else None
     for number, (command, answer) in enumerate(zip(talk.commands, talk.answers), 1):
-        *pieces, last = cut(source, command, 3)
-        for piece in pieces:
+        wanted = answer.encode()
+        for piece in cut(source, command.removesuffix(b"\n"), 3):
             talker.give(piece)
             talker.are_read()
-        talker.drain()
-        if len(talker.said) > len(done.encode()):
-            raise Late(f"before its end {shortened(command)} is answered {shown(talker.said[len(done.encode()) :])}")
-        if number == unended:
-            talker.give(last.removesuffix(b"\n"))
+        if not talker.has_no_more_than(len(done)):
+            raise Late(f"before its end {shortened(command)!r} is answered {shown(talker.said[len(done) :])}")
+        if number == last:
             break
-        talker.give(last)
-        talker.wait_for(len((done + answer).encode()))
-        if talker.said != (done + answer).encode():
-            raise Late(f"{shortened(command)} is answered {shown(talker.said[len(done.encode()) :])}, and by the rules {answer!r}")
-        done += answer
+        talker.give(b"\n")
+        talker.wait_for(done + wanted)
+        if talker.said != done + wanted:
+            raise Late(f"{shortened(command)!r} is answered {shown(talker.said[len(done) :])}, and has to be {shown(wanted)}")
+        done += wanted
     talker.give(talk.behind)
 
 
-def run(words, talk, way, source, patience=60):
+def run(words, talk, way, source, patience=SECONDS, pause=0.0):
     """What is wrong with the answers of a run, or None."""
     try:
-        with Talker(words, patience) as talker:
+        with Talker(words, patience, pause) as talker:
             if not talk.refused:
                 way(talker, talk, source)
             if talk.end != "quit" or way is not in_steps:
                 talker.close()
-            said, status, errors = talker.ended()
+            return unlike(*talker.ended(), *talk.answer)
     except Late as late:
         return str(late)
-    text, wanted = talk.answer
-    if (said, status, errors) == (text.encode(), wanted, b""):
+
+
+def unlike(said, status, errors, text, ends):
+    """In what all that is printed and the end are other than they have to be, or None."""
+    wanted = text.encode()
+    if (said, status, errors) == (wanted, ends, b""):
         return None
-    common = next((at for at, (one, other) in enumerate(zip(said, text.encode())) if one != other), min(len(said), len(text.encode())))
-    return (f"status {status} for {wanted}, on standard error {errors[:200]}, and from byte {common} on {shown(said[common:])} where the rules say "
-            f"{shown(text.encode()[common:])}")
+    at = len(os.path.commonprefix([said, wanted]))
+    return f"status {status} for {ends}, {errors[:200]} on standard error, and from byte {at} on {shown(said[at:])}, where the rules say {shown(wanted[at:])}"
 
 
 def shown(text):
+    """The beginning of what is printed."""
     return repr(text[:200].decode(errors="replace"))
 
 
@@ -201,102 +201,6 @@ def soaked(started, seed, seconds):
     return ended("soaked streams", number, len(wrong))
 
 
-# ---- runs that do not open, and an output that nobody takes
-
-CATALOGUE = b'@catalogue\n[[view]]\nname = "a"\ncolumns = ["x"]\n[[view]]\nname = "v"\nover = ["a"]\nkeep = [["x", ["+", "a.x", 1]]]\n'
-DATA = b"@data a\nx\n1\n"
-OPENINGS = [
-    (b"", "fault part catalogue", 3),
-    (b"no bundle\n", "fault part text", 3),
-    (b"\x00\xff\n", "fault part text", 3),
-    (b"@catalogue\n[[", "fault toml", 3),
-    (b'@catalogue\n[[view]]\nname = "a"\n', "fault key columns", 3),
-    (CATALOGUE + CATALOGUE, "fault part catalogue", 3),
-    (CATALOGUE + b"@night\n", "fault part night", 3),
-    (CATALOGUE + b"@zz\n" + DATA, "fault part zz", 3),
-    (CATALOGUE + DATA + b"@changes a\n#,x\n", "fault part changes", 3),
-    (CATALOGUE + b"@schedule\ndesks 1\nworkers 1\nkeys 1\n", "fault part schedule", 3),
-    (CATALOGUE + b"@data v\nx\n1\n", "fault part data", 3),
-    (CATALOGUE + b"@data a\ny\n1\n", "fault header", 3),
-    (CATALOGUE + DATA + b"1,2\n", "fault csv 3", 3),
-    (CATALOGUE + DATA + b"x\n", "fault number 3", 3),
-    (CATALOGUE + DATA + b"@strategy\ninst a\ninst\n", "fault strategy 2", 3),
-    (CATALOGUE + b"@data a\nx\n9223372036854775807\n", "refused range v", 1),
-    (CATALOGUE + b"@data a\n#,x\n72057594037927937,1\n", "refused large v", 1),
-    (CATALOGUE + DATA + b"@strategy\ninst v\n", "version 0", None),
-]
-# Words behind `live`, and what is printed, where that is the program's own and not the parser's of the command line.
-WORDS = [
-    ([], "error: `live` needs `--input`"),
-    (["--workers", "2"], "error: `live` needs `--input`"),
-    *((words.split(), None) for words in (
-        "--input", "--input {file} --input {file}", "--input {file} --workers 0", "--input {file} --workers 17", "--input {file} --workers x", "--input {file} --desks 0",
-        "--input {file} --desks 17", "--input {file} --versions 1", "--input {file} --versions 5", "--input {file} --page-keys 0", "--input {file} --page-keys 257",
-        "--input {file} --most 0", "--input {file} --readers 1", "--input {file} --print tables", "--input {file} --workers 2 --workers 2", "{file}", "--zz")),
-]
-
-
-def answer(words, given):
-    ran = subprocess.run(words, input=given, capture_output=True, timeout=60)
-    return ran.stdout.decode(errors="replace"), ran.returncode, ran.stderr
-
-
-def unopened(started, file):
-    """What is wrong with the answers to openings that are none, and to words that are not taken."""
-    for opening, text, status in OPENINGS:
-        file.write_bytes(opening)
-        wanted = ("".join(f"{line}\n" for line in (["session 0", "closed"] if status is None else [text])), status or 0, b"")
-        got = answer([started, "live", "--input", str(file)], b"open 0\nclose 0\n")
-        yield None if got == wanted else f"an opening answered {got} where {wanted} is wanted:\n{opening.decode(errors='replace')}"
-    got = answer([started, "live", "--input", f"{file}.none"], b"open 0\n")
-    yield None if got == ("fault read\n", 3, b"") else f"a file that is not there answered {got}"
-    for most in (len(OPENINGS[-1][0]), len(OPENINGS[-1][0]) - 1):
-        got = answer([started, "live", "--input", str(file), "--most", str(most)], b"")
-        wanted = ("", 0, b"") if most == len(OPENINGS[-1][0]) else ("fault toolong\n", 3, b"")
-        yield None if got == wanted else f"--most {most} answered {got}"
-    for words, text in WORDS:
-        got, status, errors = answer([started, "live", *(word.replace("{file}", str(file)) for word in words)], b"open 0\n")
-        yield None if (status, errors) == (2, b"") and got and text in (None, got.removesuffix("\n")) else f"live {words} answered {got} with status {status}"
-    got = answer([started], b"live\nopen 0\n")
-    yield None if got == (f"{WORDS[0][1]}\n", 2, b"") else f"live on the first line answered {got}"
-
-
-def unheard(words):
-    """The status where the output is closed, and the input stays open."""
-    with Talker(words) as talker:
-        talker.process.stdout.close()
-        talker.process.stdin.write(b"open 0\nread 0 a 1\n" * 100)
-        with contextlib.suppress(subprocess.TimeoutExpired):
-            return talker.process.wait(talker.patience)
-    return "none, since it does not end"
-
-
-def untaken(started, file):
-    """What is wrong where nobody takes the output, or where nothing can be read."""
-    file.write_bytes(CATALOGUE + DATA)
-    words = [started, "live", "--input", str(file)]
-    yield None if (status := unheard(words)) in (5, -signal.SIGPIPE) else f"where nobody takes the output the status is {status}"
-    with open("/dev/full", "wb") as full:
-        status = subprocess.run(words, input=b"open 0\n", stdout=full, timeout=60).returncode
-    yield None if status == 5 else f"where the output is full the status is {status}"
-    with open("/dev/full", "wb") as full:
-        status = subprocess.run(words, input=b"\nquit\n", stdout=full, timeout=60).returncode
-    yield None if status == 0 else f"where nothing is to be written to a full output the status is {status}"
-    folder = os.open("/", os.O_RDONLY)
-    ran = subprocess.run(words, stdin=folder, capture_output=True, timeout=60)
-    os.close(folder)
-    yield None if (ran.stdout, ran.returncode, ran.stderr) == (b"fault read\n", 3, b"") else f"where nothing can be read {ran} is answered"
-
-
-def apart(started):
-    with tempfile.TemporaryDirectory() as name:
-        found = [*unopened(started, Path(name) / "opening"), *untaken(started, Path(name) / "opening")]
-    wrong = list(filter(None, found))
-    told(wrong)
-    ended("runs apart", len(found), len(wrong))
-    return wrong
-
-
 # ---- what is wrong by design
 
 
@@ -330,7 +234,7 @@ def untimely(talk):
         if blamed := run(talkers.words_for(talkers.right, file.name), talk, in_steps, random.Random(0)):
             yield f"a right program is blamed: {blamed}"
         for does in talkers.UNTIMELY:
-            if not run(talkers.words_for(does, file.name), talk, in_steps, random.Random(0), SOON):
+            if not run(talkers.words_for(does, file.name), talk, in_steps, random.Random(0), SOON, PAUSE):
                 yield f"nothing tells that a program answers {does.__name__.replace('_', ' ')}"
 
 

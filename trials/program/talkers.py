@@ -17,12 +17,12 @@ class Late(Exception):
 
 
 class Talker:
-    """A running program, what it has printed, and how long it is waited for."""
+    """A running program, what it has printed, how long it is waited for, and how long for what may not come."""
 
-    def __init__(self, words, patience=SECONDS):
+    def __init__(self, words, patience=SECONDS, pause=0.0):
         pipes = {"stdin": subprocess.PIPE, "stdout": subprocess.PIPE, "stderr": subprocess.PIPE}
         self.process = subprocess.Popen(words, bufsize=0, **pipes)
-        self.said, self.patience, self.is_over = b"", patience, False
+        self.said, self.patience, self.pause, self.is_over = b"", patience, pause, False
 
     def __enter__(self):
         return self
@@ -39,7 +39,7 @@ class Talker:
         """Writes these bytes, and reads what is printed meanwhile."""
         until = time.monotonic() + self.patience
         while given and not self.is_over:
-            readable, writable, _ = select.select([self.process.stdout], [self.process.stdin], [], until - time.monotonic())
+            readable, writable, _ = select.select([self.process.stdout], [self.process.stdin], [], max(0.0, until - time.monotonic()))
             if not readable and not writable:
                 raise Late("the input is not read")
             if readable:
@@ -72,12 +72,17 @@ class Talker:
         if select.select([self.process.stdout], [], [], seconds)[0] and not self.is_over:
             self.read()
 
-    def wait_for(self, count):
-        """Waits until so many bytes have been printed."""
+    def has_no_more_than(self, count):
+        """Whether so many bytes have been printed, and no more come."""
+        self.drain(self.pause)
+        return len(self.said) <= count
+
+    def wait_for(self, wanted):
+        """Waits until all that is wanted has been printed, or something else."""
         until = time.monotonic() + self.patience
-        while len(self.said) < count and not self.is_over:
+        while wanted.startswith(self.said) and self.said != wanted and not self.is_over:
             if not select.select([self.process.stdout], [], [], max(0.0, until - time.monotonic()))[0]:
-                raise Late(f"{count - len(self.said)} bytes of the answer do not come before more is written")
+                raise Late(f"{len(wanted) - len(self.said)} bytes of the answer do not come before more is written")
             self.read()
 
     # ---- the end
