@@ -11,17 +11,22 @@ from whview.catalogue.views import View
 
 MORE_WORDS = ["ash\n@end\nquit", "night", "@strategy"]
 MOST_COMMANDS = 55
-UNKNOWN = [b"begin", b"take 0", b"done 0", b"page", b"Commit", b"commit 1", b"giveup 0", b"open", b"open x", b"open -1", b"open +1", b"open 1000001", b"close",
-           b"close 0 0", b"read 0 b0", b"read b0 0 1", b"read 0 b0 1 1", b"read 0 b0 x", b"nights", b"night 1", b"@end", b"@night", b"@strategy", b"quit now",
-           b"# quit", b"commit\r", b"quit\r", b"\r", b"\xff\xfe", b"\x00", b"B\xc3\xa4ume", b"x" * 70000]
+# Events that a schedule alone has, words too few or too many, numbers that are none, and lines that are nothing at all.
+UNKNOWN = [b"begin", b"take 0", b"done 0", b"page", b"commit 1", b"giveup 0", b"close 0 0", b"read 0 b0 1 1", b"night 1", b"quit now"]
+UNKNOWN += [b"open", b"close", b"read 0 b0", b"read b0 0 1", b"read 0 b0 x", b"open x", b"open -1", b"open +1", b"open 1000001"]
+UNKNOWN += [b"Commit", b"nights", b"@end", b"@night", b"@strategy", b"# quit", b"commit\r", b"quit\r", b"\r", b"\xff\xfe", b"\x00", b"B\xc3\xa4ume"]
+UNKNOWN += [b"x" * 70000]
 BLANK = [b"", b" ", b"\t \t"]
-STRANGE = [b"@zz oak\n", b"@\n", b"@Strategy\n", b"@night\n", b"@data b0\nc0\n", b"@data\n", b"@catalogue\n[[", b"@sizes\n", b"@plan\n", b"@schedule\n",
-           b"@changes zz\n#\n", b"@changes v1\n#\n", b"@changes b0\n#,c0\n", b"@changes\n"]
-LINES = [b"oak\n", b"1\n", b"0,1,1\n", b"-1,1\n", b"1.5,1\n", b"1,1,oak\n", b"1,1,oak,1\n", b"9223372036854775808,1\n", b"9223372036854775807,1\n", b"\n", b"comp v1 from\n",
-         b"comp zz from b0\n", b"inst\n", b"inst b0\n", b"inst b0 v1\n"]
+# Parts that a night may not have, and lines that a part may not have; some may be there after all.
+STRANGE = [b"@zz oak\n", b"@\n", b"@Strategy\n", b"@night\n", b"@data b0\nc0\n", b"@data\n", b"@catalogue\n[[", b"@sizes\n", b"@plan\n"]
+STRANGE += [b"@schedule\n", b"@changes zz\n#\n", b"@changes v1\n#\n", b"@changes b0\n#,c0\n", b"@changes\n"]
+LINES = [b"oak\n", b"1\n", b"0,1,1\n", b"-1,1\n", b"1.5,1\n", b"1,1,oak\n", b"1,1,oak,1\n", b"9223372036854775808,1\n", b"\n"]
+LINES += [b"comp v1 from\n", b"comp zz from b0\n", b"inst\n", b"inst b0\n", b"inst b0 v1\n"]
 COUNTED = [b"0", b"+0", b"x", b"", b"1.0", b"+1", b"9223372036854775807", b"-9223372036854775809"]
+# How large the machine is.
+HOW = {"desks": [1, 2, 2, 3, 3, 16], "keys": [*KEYS, 256], "kept": [2, 2, 3, 4]}
 # What is still to come behind the last command, and how the input ends there.
-ENDS = {"quit": b"quit\nopen 0\nnight\n@strategy\n@end\n", "end": b"", "amid": b"night\n@strategy\ninst b0", "begun": b"night\n", "unended": b""}
+ENDS = {"quit": b"quit\nopen 0\nnight\n@end\n", "end": b"", "amid": b"night\n@strategy\ninst b0", "begun": b"night\n", "unended": b""}
 
 
 class Growing(Small):
@@ -54,7 +59,7 @@ class Talk:
         self.drawer = Growing(self.source)
         self.drawer.draw_views()
         self.warehouse = Warehouse(self.drawer.views)
-        self.how = {"desks": self.source.choice([1, 2, 2, 3, 3, 16]), "keys": self.source.choice([*KEYS, 256]), "kept": self.source.choice([2, 2, 3, 4])}
+        self.how = {name: self.source.choice(numbers) for name, numbers in HOW.items()}
         self.opening = self.drawn_opening()
         self.end = self.source.choice(list(ENDS))
         self.commands, self.answers, self.refused = [], [], ""

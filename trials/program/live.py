@@ -1,16 +1,16 @@
-"""Draws warehouses that stay and streams of commands over them, and compares what `whview live` answers over pipes with a machine of its own.
+"""Draws warehouses that stay and streams of commands, and compares what `whview live` answers over pipes with a machine of its own.
 
-Openings and commands are drawn by trials/drawn/dialogues.py: nights that follow one another, commits, give-ups, what desks do in any order,
-lines that are blank or unknown, and nights that are refused, for a fault, a broken strategy, rows that are not there, or since one is open.
-trials/oracle/dialogue.py says what each command is answered: to the machine of trials/oracle/machine.py a night is a Begin, and then what one
-worker and the pages do as far as they go. A page is compared as a table, byte for byte. `quit` stands amid the input, or the input ends behind
-a command, amid a night, or amid the last line.
+Openings and commands are drawn by trials/drawn/dialogues.py: nights that follow one another, commits, give-ups, what desks do in any
+order, lines that are blank or unknown, and nights that are refused, for a fault, a broken strategy, rows that are not there, or since
+one is open. trials/oracle/dialogue.py says what each command is answered: to the machine of trials/oracle/machine.py a night is a Begin,
+and then what one worker and the pages do as far as they go. A page is compared as a table, byte for byte. `quit` stands amid the input,
+or the input ends behind a command, amid a night, or without a line feed.
 
-Each stream is written in steps: a command in pieces, each read before the next one is written, and then its whole answer is waited for before
-the next command comes. It is written a second time in pieces that end anywhere, a few of them at each byte. The answers are the same by 1 to
-4 workers. Before that, and alone with `--selftest`, falsified dialogues and machines of trials/spoilt/dialogues.py have to answer one of the
-first drawn streams in another way, and programs that answer at the wrong time have to be noticed. Beside the streams stand runs that do not
-open, or whose output nobody takes. `--soak` goes on drawing for so many seconds.
+Each stream is written in steps: a command in pieces, each read before the next one is written, and then its whole answer is waited for
+before the next command comes. It is written a second time in pieces that end anywhere, and a short one at each byte too. The answers are
+the same by 1 to 4 workers. Before that, and alone with `--selftest`, the falsified dialogues and machines of trials/spoilt/dialogues.py
+have to answer one of the first streams in another way, and programs that answer at the wrong time have to be noticed. Beside the streams
+stand runs that do not open, or whose output nobody takes. `--soak` goes on drawing for so many seconds, and does nothing else.
 """
 
 import os
@@ -39,9 +39,10 @@ FEW, EACH = 500, 8
 # How long untimely programs are waited for, and how long for what comes too soon.
 SOON, PAUSE = 2, 0.03
 REFUSALS = "NoSession SessionOpen NoView NoDesk Limit NightOpen NoNight NotReady Large Range Absent".split()
-KINDS = ["begun", "job", "done", "paged", "ready", "version", "session", "closed", "unknown", "page end", "page more", "expired active", "expired idle", "broken"]
+KINDS = ["begun", "job", "done", "paged", "ready", "version", "session", "closed", "unknown", "quiet", "broken"]
+KINDS += ["page end", "page more", "expired active", "expired idle"]
 KINDS += [f"refused {name}" for name in REFUSALS] + [f"fault {name}" for name in ("part", "header", "csv", "number", "strategy")]
-KINDS += [f"end {end}" for end in ("quit", "end", "amid", "begun", "unended")] + ["refused range", "refused large", "quiet", "each byte"]
+KINDS += [f"end {end}" for end in ("quit", "end", "amid", "begun", "unended")] + ["refused range", "refused large", "each byte"]
 
 
 def kinds_of(command, answer):
@@ -115,7 +116,8 @@ def unlike(said, status, errors, text, ends):
     if (said, status, errors) == (wanted, ends, b""):
         return None
     at = len(os.path.commonprefix([said, wanted]))
-    return f"status {status} for {ends}, {errors[:200]} on standard error, and from byte {at} on {shown(said[at:])}, where the rules say {shown(wanted[at:])}"
+    beside = f"status {status} for {ends}, {errors[:200]} on standard error"
+    return f"{beside}, and from byte {at} on {shown(said[at:])}, which has to be {shown(wanted[at:])}"
 
 
 def shown(text):
@@ -150,9 +152,11 @@ def tried(started, seed, numbers):
             kinds.update(kinds_of_talk(talk))
             for way, workers in ways(number, talk):
                 kinds[" ".join(way.__name__.split("_")[1:])] += 1
-                words = ["live", "--input", file.name, *talk.words, *(["--workers", str(workers)] if workers > 1 else [])]
-                if said := run([started, *words], talk, way, random.Random(f"{seed} {number} {workers}")):
-                    wrong.append(f"stream {number} {way.__name__} by {words}: {said}\nfor\n{shortened(talk.opening)}\nand\n{shortened(talk.bytes)}")
+                words = [*talk.words, *(["--workers", str(workers)] if workers > 1 else [])]
+                source = random.Random(f"{seed} {number} {workers}")
+                if said := run([started, "live", "--input", file.name, *words], talk, way, source):
+                    said = f"stream {number}, {way.__name__.replace('_', ' ')}, by {words}: {said}"
+                    wrong.append(f"{said}\nfor\n{shortened(talk.opening)}\nand\n{shortened(talk.bytes)}")
     return wrong, kinds
 
 
@@ -243,11 +247,11 @@ def selftest(seed):
     wrong = ["the dialogue answers the worked stream in another way"] if differs(talks[0], Dialogue, Machine) else []
     wrong += [f"there is no {name}" for name in UNTOLD if name not in {kind.__name__ for kind in FALSIFIED}]
     wrong += unnoticed(seed, talks)
-    plain = next(talk for talk in talks if talk.end == "end" and sum(map(bool, talk.answers)) > 9 and len(talk.bytes) < 5000 and not talk.refused)
-    wrong += untimely(plain)
+    wrong += untimely(next(talk for talk in talks if talk.end == "end" and len(talk.bytes) < 5000 and sum(map(bool, talk.answers)) > 9))
     told(wrong)
     falsified = len(FALSIFIED_DIALOGUES) + len(FALSIFIED_MACHINES)
-    print(f"falsified dialogues and machines: {falsified}, noticed within {len(talks)} streams; untimely programs: {len(talkers.UNTIMELY)}; {len(wrong)} failed", flush=True)
+    print(f"falsified dialogues and machines: {falsified}, noticed within {len(talks)} streams")
+    print(f"untimely programs: {len(talkers.UNTIMELY)}; {len(wrong)} failed", flush=True)
     return wrong
 
 

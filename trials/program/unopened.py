@@ -34,7 +34,7 @@ OPENINGS = [
     (CATALOGUE + b"@data a\nx\n9223372036854775807\n", "refused range v\n", 1),
     (CATALOGUE + b"@data a\n#,x\n72057594037927937,1\n", "refused large v\n", 1),
 ]
-# Words behind `live`, where `{file}` is a good opening, and what is printed; None is what the parser of the command line says, which is not fixed.
+# Words behind `live`, where `{file}` is a good opening, and what is printed: None is what the parser of words says, which is not fixed.
 WORDS = [
     ("--input {file}.none", "fault read\n", 3),
     (f"--input {{file}} --most {len(FINE)}", ANSWER, 0),
@@ -42,10 +42,9 @@ WORDS = [
     ("", UNNAMED, 2),
     ("--workers 2", UNNAMED, 2),
 ]
-WORDS += [(words, None, 2) for words in ("--input", "{file}", "--zz", "--input {file} --input {file}", "--input {file} --workers 2 --workers 2")]
-WORDS += [(f"--input {{file}} {words}", None, 2) for words in (
-    "--workers 0", "--workers 17", "--workers x", "--desks 0", "--desks 17", "--versions 1", "--versions 5", "--page-keys 0", "--page-keys 257", "--most 0",
-    "--readers 1", "--print tables")]
+NUMBERS = "--workers 0", "--workers 17", "--workers x", "--desks 0", "--desks 17", "--versions 1", "--versions 5", "--page-keys 0"
+OTHERS = "--page-keys 257", "--most 0", "--readers 1", "--print tables", "--input {file}", "--workers 2 --workers 2"
+WORDS += [(words, None, 2) for words in ("--input", "{file}", "--zz", *(f"--input {{file}} {more}" for more in (*NUMBERS, *OTHERS)))]
 
 
 def cases():
@@ -63,7 +62,8 @@ def mistake(started, file, opening, words, text, status):
     is_right = ran.stdout.decode() == text if text else ran.stdout
     if is_right and (ran.returncode, ran.stderr) == (status, b""):
         return None
-    return f"live {words} answered {ran.stdout}, {ran.stderr} and status {ran.returncode}, where {text!r} and {status} are wanted, over\n{opening.decode(errors='replace')}"
+    said = f"live {words} answered {ran.stdout}, {ran.stderr} and status {ran.returncode}, where {text!r} and {status} are wanted"
+    return f"{said}, for\n{opening.decode(errors='replace')}"
 
 
 # ---- an output that nobody takes, and an input that cannot be read
@@ -92,16 +92,20 @@ def from_a_folder(words):
     return ran.stdout, ran.stderr, ran.returncode
 
 
+def wrong_for(where, got, *wanted):
+    return None if got in wanted else f"{where}, {got} comes, and one of {wanted} has to"
+
+
 def untaken(started, file):
     """What is wrong with such runs."""
     file.write_bytes(FINE)
     words = [started, "live", "--input", file]
-    yield None if (status := unheard(words)) in (5, -signal.SIGPIPE) else f"where nobody takes the output the status is {status}"
-    yield None if (status := into_a_full_disk(words, COMMANDS)) == 5 else f"where the disk is full the status is {status}"
-    yield None if (status := into_a_full_disk(words, b"\nquit\n")) == 0 else f"where nothing is printed into a full disk the status is {status}"
-    yield None if (got := from_a_folder(words)) == (b"fault read\n", b"", 3) else f"where the commands cannot be read {got} is answered"
+    yield wrong_for("where nobody takes the output", unheard(words), 5, -signal.SIGPIPE)
+    yield wrong_for("where the disk is full", into_a_full_disk(words, COMMANDS), 5)
+    yield wrong_for("where nothing is printed into a full disk", into_a_full_disk(words, b"\nquit\n"), 0)
+    yield wrong_for("where the commands cannot be read", from_a_folder(words), (b"fault read\n", b"", 3))
     ran = subprocess.run([started], input=b"live\n" + COMMANDS, capture_output=True, timeout=SECONDS)
-    yield None if (ran.stdout.decode(), ran.returncode) == (UNNAMED, 2) else f"live on the first line answered {ran.stdout} with status {ran.returncode}"
+    yield wrong_for("where live stands on the first line", (ran.stdout.decode(), ran.returncode), (UNNAMED, 2))
 
 
 def apart(started):
