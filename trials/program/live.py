@@ -33,7 +33,7 @@ from trials.spoilt.dialogues import FALSIFIED_DIALOGUES, FALSIFIED_MACHINES, UNT
 from trials.spoilt.machines import FALSIFIED
 from upkeep.words import program, words_with_program
 
-COUNT, SEED, NOTICED, BLOCK, TOGETHER = 2000, 20261201, 400, 20, 2
+COUNT, SEED, NOTICED, BLOCK, TOGETHER = 1500, 20261201, 400, 20, 2
 # Streams of at most so many bytes are cut at every byte too; every so manieth comes by each number of workers.
 FEW, EACH = 500, 8
 # How long untimely programs are waited for, and how long for what comes too soon.
