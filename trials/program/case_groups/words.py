@@ -74,13 +74,15 @@ Commands:
   certify  Judges a plan by its certificate. Reads the catalogue, the sizes and the plan.
   night    Carries a strategy out and shows the new tables. Reads the catalogue, the data, the changes and the strategy.
   replay   Goes through a schedule of events and prints the reply to each. Reads the catalogue, the data, the changes and the strategy of each night, and the schedule.
+  live     Keeps a warehouse and answers commands, a line each, for as long as they come. Opens it from a file with the catalogue and the data, and the strategy of nights that write none.
   help     Print this message or the help of the given subcommand(s)
 
 Options:
   -h, --help  Print help
 
 Each command reads a bundle: one text of several parts, each of which begins with a line like
-@catalogue. 'whview COMMAND --help' has the command's options and statuses.
+@catalogue. 'whview COMMAND --help' has the command's options and statuses. The command live
+reads its bundle from a file, and answers commands from standard input.
 
 Where no words are given, the first line of standard input has them, without --input.
 
@@ -100,6 +102,13 @@ RUN = [
     ("--page-keys <N>", "How many rows are written at a time, 1 to 256 [default: 256]"),
     ("--print <WHAT>", "What is printed of the derived views: tables or changes [default: tables]"),
 ]
+MACHINE = [
+    ("--workers <N>", "How many workers the warehouse has, and threads that open it, 1 to 16 [default: 1]"),
+    ("--desks <N>", "How many desks the warehouse has, 1 to 16 [default: 16]"),
+    ("--versions <N>", "How many versions are kept, 2 to 4 [default: 2]"),
+    ("--page-keys <N>", "How many rows are written at a time, 1 to 256 [default: 256]"),
+]
+OPENING = [("--input <FILE>", "The file of the opening, which has to be named")]
 BUDGET = [("--budget <N>", "How many nodes a search may open, 1 to 9,223,372,036,854,775,807 [default: 1,000,000]")]
 COMMON_ENDS = {2: "these words are not taken", 3: "the input has a fault", 4: "memory was refused", 5: "the output failed"}
 
@@ -112,13 +121,14 @@ class Command(NamedTuple):
     options: list
     ends: dict
     example: str
+    notes: str = ""
 
     def help(self):
         width = max(len(option) for option, _ in self.options)
         options = "".join(f"      {option:{width}}  {text}\n" for option, text in self.options)
         ends = "".join(f"  {status}  {text}\n" for status, text in sorted((COMMON_ENDS | self.ends).items()))
         options += f"{'  -h, --help':{width + 6}}  Print help\n"
-        return f"{self.about}\n\nUsage: whview {self.name} [OPTIONS]\n\nOptions:\n{options}\nEnds with:\n{ends}\nExample:\n  whview {self.example}\n"
+        return f"{self.about}\n\nUsage: whview {self.name} [OPTIONS]\n\nOptions:\n{options}\n{self.notes}Ends with:\n{ends}\nExample:\n  whview {self.example}\n"
 
 
 COMMANDS = [
@@ -134,11 +144,18 @@ COMMANDS = [
             "of each night, and the schedule.", FILE + LENGTH,
             {0: "each event has its reply, also where events are refused", 1: "a strategy breaks a rule, or the opening contents are refused"},
             "replay --input examples/replay_two_nights.bundle"),
+    Command("live", "Keeps a warehouse and answers commands, a line each, for as long as they come. Opens it from a file with the catalogue and the "
+            "data, and the strategy of nights that write none.", MACHINE + OPENING + LENGTH,
+            {0: "the commands are at their end, also where some are refused", 1: "the opening contents are refused",
+             2: "these words are not taken, or no file is named", 3: "the file has a fault, or a read of the commands failed"},
+            "live --input examples/live_shop.opening",
+            "Reads commands from standard input: 'night' and the night's parts up to '@end', 'commit', 'giveup',\n"
+            "'open D', 'read D VIEW LIMIT', 'close D' and 'quit'.\n\n"),
 ]
 
 MORE = "\nFor more information, try '--help'.\n"
 NO_COMMAND = f"""error: 'whview' requires a subcommand but one was not provided
-  [subcommands: check, plan, certify, night, replay, help]
+  [subcommands: check, plan, certify, night, replay, live, help]
 
 Usage: whview <COMMAND>
 {MORE}"""
@@ -214,6 +231,7 @@ REFUSED = (
     "night --workers", "night --readers 2 --readers 2", "night --workers 0", "night --readers 17", "night --page-keys 0", "check --readers 2", "night --print",
     "night --print table", "night --print ", "night --print tables --print tables", "check --print tables", "replay --comp-cost 2", "replay --inst-cost 2",
     "replay --budget 2", "replay --workers 2", "night --most", "night --most 0", "night --most 9 --most 9", "replay --most -1", "replay --most=",
+    "live --readers 2", "live --desks 0", "live --desks 17", "live --versions 1", "live --versions 5", "live --print changes", "live x", "lives",
     "check --most 9", "plan --most 9", "certify --most 9", "replay x", "replays", "check -c", "-V", "--version", "check -V", "check --version", "help plans",
 )
 

@@ -224,7 +224,7 @@ fn live_command<'a>(alloc: Global) -> Result<Command<'a>, AllocError>
     );
     let machine = machine_command(alloc)?;
     let with_page_keys = machine.arg(page_keys)?;
-    let with_input = with_page_keys.arg(input_option(alloc))?;
+    let with_input = with_page_keys.arg(opening_option(alloc))?;
     with_input.arg(most_option(alloc))
 }
 
@@ -301,4 +301,15 @@ fn input_option<'a>(alloc: Global) -> Arg<'a>
         .long("input")
         .value_name("FILE")
         .help("The file to read [default: standard input]")
+}
+
+/// The option for the file of an opening, which no input stands in for.
+fn opening_option<'a>(alloc: Global) -> Arg<'a>
+    ensures rule { rule_of result ≡ rule_for (codes "input", File) }
+    ensures local { result.global ≡ false }
+{
+    Arg::new(alloc, "input")
+        .long("input")
+        .value_name("FILE")
+        .help("The file of the opening, which has to be named")
 }
