@@ -84,7 +84,8 @@ Each command reads a bundle: one text of several parts, each of which begins wit
 @catalogue. 'whview COMMAND --help' has the command's options and statuses. The command live
 reads its bundle from a file, and answers commands from standard input.
 
-Where no words are given, the first line of standard input has them, without --input.
+Where no words are given, the first line of standard input has them, without --input. The
+command live cannot stand there.
 
 Example:
   whview night --input examples/night_shop.bundle
