@@ -1,13 +1,16 @@
 -- A night that is to be carried out, and where carrying out can be refused.
-use Rattle.std.specs.Prelude.{◌≡◌, ℕ, List, ◌∷◌, ◌++◌, drop, length}
+use Rattle.std.specs.Prelude.{◌≡◌, ℕ, List, [], ◌∷◌, ◌++◌, drop, length}
 use Rattle.std.specs.List.{All, range_with_len}
 use Rattle.wh_strategy.specs.declared.expression.Expression.{Expression}
 use Rattle.wh_strategy.specs.Expression.{At}
 use Rattle.wh_row.specs.Bag.{Bag}
 use Rattle.wh_dag.specs.Catalog.{CatalogOf}
 use Rattle.wh_maint.specs.declared.fault.MaintFault.{MaintFault}
+use Rattle.wh_maint.specs.Comp.{bag_at}
 use Rattle.wh_maint.specs.Definition.{graph_of}
+use Rattle.wh_store.specs.Operations.{Operation, Commits}
 use Rattle.wh_carry.specs.Carry.{State, before}
+use Rattle.wh_carry.specs.NightList.{IsNightList}
 use Rattle.wh_carry.specs.Refused.{AreAllowedBelow, IsPassed, IsStepFault}
 
 -- the strategy that is carried out, from which tables, with which changes of the base views, and how many rows a page has at most
@@ -17,6 +20,16 @@ pub record Night : Type 0 where
   pub tables : ℕ → Bag
   pub changes : ℕ → Bag
   pub keys : ℕ
+
+-- the night of this strategy and these changes over these tables
+abbrev pub night_over : CatalogOf → List Expression → List Bag → List Bag → ℕ → Night
+night_over catalog list tables changes keys = record { catalog = catalog; list = list; tables = bag_at tables; changes = bag_at changes; keys = keys }
+
+-- these operations are the whole night list, with its commit
+pub record IsWhole (n : Night) (ops : List Operation) : Type 0 where
+  pub puts : List Operation
+  pub night_list : IsNightList n.catalog n.list n.tables n.changes n.keys ops
+  pub commits : ops ≡ puts ++ Commits ∷ []
 
 -- what the expressions before this place have made of the tables
 abbrev pub state_at : Night → ℕ → State

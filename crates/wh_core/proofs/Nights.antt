@@ -182,7 +182,7 @@ module _ (have : PassedHaveValues) (s : Setup) where
       subst (λ b. AreNights s (nights_ended log) (cond b (start_of s log) (published s (Paged_in ∷ log)))) (sym deed.0) (of_open log (nights log before) deed.0)
   nights _ (one_more log Committed before deed) =
       one_night log before deed.0 Commits
-      (λ a. inl (Opens ∷ ops_of a.over, ended have (night s log) (start_of s log) (published s log) (remaining s log) (pages log) (holding log) _ _ a deed.1, refl))
+      (λ a. inl (record { puts = Opens ∷ ops_of a.over; night_list = ended have (night s log) (start_of s log) (published s log) (remaining s log) (pages log) (holding log) _ _ a deed.1; commits = refl }))
       (of_open log (nights log before) deed.0)
   nights _ (one_more log Gave_up before deed) =
       one_night log before deed Gives_up

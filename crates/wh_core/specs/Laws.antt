@@ -15,12 +15,12 @@ use Rattle.wh_maint.specs.Definition.{graph_of}
 use Rattle.wh_maint.specs.Laws.{changed}
 use Rattle.wh_maint.specs.declared.fault.MaintFault.{MaintFault}
 use Rattle.wh_row.specs.Weigh.{Counted}
-use Rattle.wh_carry.specs.NightList.{IsBeginning, IsCutNight, IsNightList}
+use Rattle.wh_carry.specs.NightList.{IsBeginning, IsCutNight}
 use Rattle.wh_carry.specs.Refused.{IsBaseFault}
-use Rattle.wh_store.specs.Operations.{Operation, Commits}
+use Rattle.wh_store.specs.Operations.{Operation}
 use Rattle.wh_store.specs.Pages.{Shown}
 use Rattle.wh_store.specs.Versions.{is_well_formed, number, table_of, version, versions_of}
-use Rattle.wh_carry.specs.Night.{Night, IsFaultAt, IsPassedAt, AreAllowed}
+use Rattle.wh_carry.specs.Night.{Night, IsFaultAt, IsPassedAt, IsWhole, AreAllowed}
 use Rattle.wh_carry.specs.Legs.{Turn, In_wave, At_page, Over}
 use Rattle.wh_core.specs.Log.{Deed, Log, Began, Drew, Finished, Paged_in, Committed, Gave_up, Sat_down, Turned, Left, SessionOf, holding, is_open, last_begun, logged, nights_begun, nights_ended, pages, session}
 use Rattle.wh_core.specs.Nights.{GivenNight, Setup, next_night, night, night_from, published, turn, versions}
@@ -59,9 +59,7 @@ pub record IsSetup (s : Setup) : Type 0 where
 
 -- these operations are the night's list with its commit, or it cut
 abbrev pub IsEnded : Night → List Operation → Type 0
-IsEnded n ops =
-    ((puts : List Operation) × IsNightList n.catalog n.list n.tables n.changes n.keys ops × (ops ≡ puts ++ Commits ∷ []))
-    ⊎ IsCutNight n.catalog n.list n.tables n.changes n.keys ops
+IsEnded n ops = IsWhole n ops ⊎ IsCutNight n.catalog n.list n.tables n.changes n.keys ops
 
 -- operations that are the first nights, so many of them and in their order, each from the contents that were the newest then
 pub data AreNights (s : Setup) : ℕ → List Operation → Type 0 where

@@ -3,11 +3,10 @@ use Rattle.std.specs.Prelude.{ℕ, List, [], ◌∷◌, ◌++◌, slice_index_or
 use Rattle.wh_dag.specs.Catalog.{CatalogOf}
 use Rattle.wh_strategy.specs.declared.expression.Expression.{Expression}
 use Rattle.wh_row.specs.Bag.{Bag}
-use Rattle.wh_maint.specs.Comp.{bag_at}
 use Rattle.wh_store.specs.Operations.{Operation, Opens, Writes, Commits, Gives_up}
 use Rattle.wh_store.specs.Pages.{Contents}
 use Rattle.wh_store.specs.Versions.{Versions, versions_of}
-use Rattle.wh_carry.specs.Night.{Night}
+use Rattle.wh_carry.specs.Night.{Night, night_over}
 use Rattle.wh_carry.specs.Legs.{Remaining, Turn, At_page, after_done, after_draw, after_page, legs_of, turn_of, untouched}
 use Rattle.wh_core.specs.declared.options.MachineOptions.{MachineOptions}
 use Rattle.wh_core.specs.Log.{Log, Began, Drew, Finished, Paged_in, Committed, Gave_up, Sat_down, Turned, Left, last_begun, nights_begun}
@@ -47,13 +46,8 @@ with_nights s later = record {
 
 -- the given night of this number, from these contents
 abbrev pub night_from : Setup → Contents → ℕ → Night
-night_from s contents n = record {
-  catalog = s.catalog;
-  list = (slice_index_or s.nights n (record { changes = []; list = [] })).list;
-  tables = bag_at contents;
-  changes = bag_at (slice_index_or s.nights n (record { changes = []; list = [] })).changes;
-  keys = s.keys;
-}
+night_from s contents n =
+    night_over s.catalog (slice_index_or s.nights n (record { changes = []; list = [] })).list contents (slice_index_or s.nights n (record { changes = []; list = [] })).changes s.keys
 
 -- the operation that puts the page in turn
 abbrev pub page_in_turn : Turn → List Operation

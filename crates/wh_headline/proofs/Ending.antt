@@ -8,11 +8,11 @@ use Rattle.wh_carry.specs.NightList.{IsCutNight, puts_of}
 use Rattle.wh_carry.specs.Refused.{ArePassedBelow}
 use Rattle.wh_carry.proofs.NewValues.{passed_have_values}
 use Rattle.wh_carry.proofs.Prefixes.{place_within}
-use Rattle.wh_carry.specs.Night.{Night, IsPassedAt, AreAllowed}
+use Rattle.wh_carry.specs.Night.{Night, IsPassedAt, IsWhole, AreAllowed}
 use Rattle.wh_carry.specs.Legs.{Over, Remaining, turn_of}
 use Rattle.wh_store.specs.Operations.{Operation, Opens, Commits, Gives_up}
 use Rattle.wh_store.specs.Versions.{Versions, after, number, opened, versions_from, versions_of}
-use Rattle.wh_night.specs.Tonight.{Begin_it, IsWhole}
+use Rattle.wh_night.specs.Tonight.{Begin_it}
 use Rattle.wh_core.specs.declared.event.Event.TheVariants as event
 use Rattle.wh_core.specs.declared.reply.Cause.TheVariants as cause
 use Rattle.wh_core.specs.declared.reply.Reply.TheVariants as reply

@@ -9,7 +9,7 @@ use Rattle.wh_store.specs.Laws.{VersionsStay}
 use Rattle.wh_store.specs.Operations.{Operation, Opens, Gives_up}
 use Rattle.wh_store.specs.Pages.{Contents, page_of}
 use Rattle.wh_store.specs.Versions.{Versions, is_active, kept_count, number, opened, table_in, version, versions_from, versions_of}
-use Rattle.wh_carry.specs.Night.{Night, AreAllowed}
+use Rattle.wh_carry.specs.Night.{Night, AreAllowed, IsWhole}
 use mathlib.Core.List.{IsPrefix}
 use Rattle.wh_desk.specs.Askers.{IsHad}
 use Rattle.wh_desk.specs.Desks.{Grows, SeenVersionsStay, Sitting, versions_seen}
@@ -19,7 +19,7 @@ use Rattle.wh_desk.specs.Writers.{Writing}
 use Rattle.wh_desk.proofs.Telling.{grows_on}
 use Rattle.wh_store.specs.Ledgers.{Warehouse}
 use Rattle.wh_store.specs.Readers.{Bookmark, bookmark_after}
-use Rattle.wh_night.specs.Tonight.{Begin_it, IsWhole}
+use Rattle.wh_night.specs.Tonight.{Begin_it}
 use Rattle.wh_core.specs.Laws.{IsSetup}
 use Rattle.wh_core.specs.Log.{Log, SessionOf, Began, Gave_up, nights_begun, session}
 use Rattle.wh_core.specs.Nights.{Setup, next_night, night_from, versions}

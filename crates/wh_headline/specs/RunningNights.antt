@@ -12,11 +12,11 @@ use Rattle.wh_store.specs.Faults.{publish_refusal, Ends, EndsLater}
 use Rattle.wh_store.specs.Ledgers.{Ledger, Warehouse}
 use Rattle.wh_store.specs.declared.ended.Ended.{Ended}
 use Rattle.wh_store.specs.Readers.{Bookmark, bookmark_after}
-use Rattle.wh_carry.specs.Night.{Night, AreAllowed}
+use Rattle.wh_carry.specs.Night.{Night, AreAllowed, IsWhole}
 use Rattle.wh_desk.specs.Askers.{IsHad}
 use Rattle.wh_desk.specs.Desks.{Grows, OpensAt, Reads, Sitting}
 use Rattle.wh_desk.specs.Writers.{Writing}
-use Rattle.wh_night.specs.Tonight.{Begin_it, IsDone, IsOpen, IsWhole, Leaves, newest_in, tonight}
+use Rattle.wh_night.specs.Tonight.{Begin_it, IsDone, IsOpen, Leaves, newest_in, tonight}
 use Rattle.wh_night.specs.declared.cause.NightCause.{NightCause}
 use Rattle.wh_night.specs.declared.left.Aftermath.{Aftermath}
 use Rattle.wh_night.specs.declared.left.Aftermath.TheVariants.{Untouched, GivenUp, StillOpen}

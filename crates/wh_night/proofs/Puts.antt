@@ -20,9 +20,9 @@ use Rattle.wh_carry.specs.Waves.{comp_of}
 use Rattle.wh_carry.proofs.Prefixes.{take_next}
 use Rattle.wh_carry.proofs.NewValues.{passed_have_values}
 use Rattle.wh_carry.proofs.Sources.{job_at}
-use Rattle.wh_carry.specs.Night.{Night, state_at}
+use Rattle.wh_carry.specs.Night.{Night, IsWhole, state_at}
 use Rattle.wh_carry.specs.Inner.Standing.{IsWaveAt}
-use Rattle.wh_night.specs.Tonight.{Begin_it, IsWhole, out_below}
+use Rattle.wh_night.specs.Tonight.{Begin_it, out_below}
 
 module _ (g : ViewGraph) (changes : ℕ → Bag) (keys : ℕ) where
   puts_append : (a b : List Expression) (s : State) → puts_of g changes keys (a ++ b) s ≡ puts_of g changes keys a s ++ puts_of g changes keys b (carried g changes a s)

@@ -19,7 +19,7 @@ use Rattle.wh_store.specs.Ledgers.{Ledger, ledger}
 use Rattle.wh_store.specs.Operations.{Opens}
 use Rattle.wh_store.specs.Pages.{Contents}
 use Rattle.wh_carry.specs.Fit.{AreFitTables}
-use Rattle.wh_carry.specs.Night.{Night}
+use Rattle.wh_carry.specs.Night.{Night, night_over}
 use Rattle.wh_carry.specs.declared.report.CarryFault.{CarryFault}
 use Rattle.wh_carry.specs.declared.report.Carried.{Carried}
 use Rattle.wh_carry.specs.declared.report.Report.{Report}
@@ -37,7 +37,7 @@ use Rattle.wh_night.specs.Beside.{HasRun}
 use Rattle.wh_night.specs.Causes.{CannotBegin}
 use Rattle.wh_night.specs.Published.{IsPublished}
 use Rattle.wh_night.specs.Refusals.{IsRefused, IsRefusedSo, left_of}
-use Rattle.wh_night.specs.Tonight.{newest_in, night_over, tonight}
+use Rattle.wh_night.specs.Tonight.{newest_in, tonight}
 use Rattle.wh_night.specs.Serving.{AreGiven, IsAt, IsSeated, WereServed, all_out, newly}
 use Rattle.wh_night.specs.Inner.Serving.{IsServed}
 use Rattle.wh_night.proofs.Rests.{rests_askable}

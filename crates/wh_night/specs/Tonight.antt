@@ -13,11 +13,11 @@ use Rattle.wh_store.specs.Pages.{Contents}
 use Rattle.wh_store.specs.Versions.{is_well_formed, number, version}
 use Rattle.wh_store.specs.Ledgers.{Ledger, is_busy, ledger, versions_in}
 use Rattle.wh_carry.specs.Carry.{tables_after}
-use Rattle.wh_carry.specs.NightList.{IsBeginning, IsCutNight, IsNightList, night_below}
+use Rattle.wh_carry.specs.NightList.{IsBeginning, IsCutNight, night_below}
 use Rattle.wh_carry.specs.Refused.{ArePassedBelow}
 use Rattle.wh_carry.specs.Waves.{stages_of}
 use Rattle.wh_carry.specs.declared.stages.Stage.{Stage}
-use Rattle.wh_carry.specs.Night.{Night, AreAllowed}
+use Rattle.wh_carry.specs.Night.{Night, AreAllowed, IsWhole, night_over}
 use Rattle.wh_carry.specs.Stages.{place_behind}
 use Rattle.wh_night.specs.Causes.{cause_of}
 use Rattle.wh_night.specs.Refusals.{IsStageFault}
@@ -30,10 +30,6 @@ use Rattle.wh_night.specs.declared.left.Aftermath.TheVariants.{Untouched, GivenU
 abbrev pub newest_in : Ledger → Contents
 newest_in l = (versions_in l.of l.list).newest
 
--- the night of this strategy and these changes over these tables
-abbrev pub night_over : CatalogOf → List Expression → Contents → List Bag → ℕ → Night
-night_over catalog list tables changes keys = record { catalog = catalog; list = list; tables = bag_at tables; changes = bag_at changes; keys = keys }
-
 -- the night of this strategy and these changes over the contents of the current version
 abbrev pub tonight : CatalogOf → List Expression → Ledger → List Bag → ℕ → Night
 tonight catalog list l changes keys = night_over catalog list (newest_in l) changes keys
@@ -45,12 +41,6 @@ made_by n = tables_after (graph_of n.catalog) n.changes n.list n.tables
 -- these operations have gone out behind what was published, and this is held
 abbrev pub goes_out : Ledger → List Operation → Option Operation → Ledger
 goes_out l ops held = ledger l.of (l.list ++ ops) held
-
--- these operations are the whole night list, with its commit
-pub record IsWhole (n : Night) (ops : List Operation) : Type 0 where
-  pub puts : List Operation
-  pub night_list : IsNightList n.catalog n.list n.tables n.changes n.keys ops
-  pub commits : ops ≡ puts ++ Commits ∷ []
 
 -- these operations begin the night list, and its commit is not among them
 abbrev pub Begin_it : Night → List Operation → Type 0

@@ -11,7 +11,7 @@ ghost use Rattle.wh_carry.specs.Stages.{place_behind};
 ghost use Rattle.wh_carry.specs.Standing.{IsStageIn};
 ghost use Rattle.wh_carry.specs.Fit.{AreFitTables};
 ghost use Rattle.wh_night.specs.Refusals.{IsFirstStageFault, IsRefusedSo, left_of};
-ghost use Rattle.wh_night.specs.Tonight.{night_over};
+ghost use Rattle.wh_carry.specs.Night.{night_over};
 ghost use Rattle.wh_night.specs.Inner.Underway.{Given, HasCome, night_given};
 
 use crate::gate::Gate;

@@ -31,7 +31,7 @@ use Rattle.wh_strategy.specs.Rules.{IsCorrect}
 use Rattle.wh_strategy.specs.declared.expression.Expression.{Expression}
 use Rattle.whview.specs.Inner.FitNight.{AreReadTables}
 use Rattle.wh_night.specs.Refusals.{IsRefusedSo, left_of}
-use Rattle.wh_night.specs.Tonight.{night_over}
+use Rattle.wh_carry.specs.Night.{night_over}
 use Rattle.wh_night.specs.Serving.{rows_of}
 use Rattle.whview.specs.NightOutput.{AreOpened, IsDecided, IsRefusedFrom, IsShownAs, IsShownFrom, night_from}
 use Rattle.whview.specs.declared.night.Outcome.TheVariants.{NoContents}

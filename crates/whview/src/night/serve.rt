@@ -8,7 +8,7 @@ ghost use Rattle.wh_maint.specs.Comp.{bag_at};
 ghost use Rattle.wh_maint.specs.declared.fault.MaintFault.TheVariants.{Memory};
 ghost use Rattle.wh_night.specs.Refusals.{IsRefusedSo, left_of};
 ghost use Rattle.wh_night.specs.Serving.{ToldOfNight, rows_of};
-ghost use Rattle.wh_night.specs.Tonight.{night_over};
+ghost use Rattle.wh_carry.specs.Night.{night_over};
 ghost use Rattle.wh_text_catalogue.specs.Definitions.{shown_view};
 ghost use Rattle.whview.specs.Inner.NightOutput.{IsShownWhole};
 ghost use Rattle.whview.specs.NightOutput.{AtDerived, IsShownAs, rows_printed};
