@@ -123,24 +123,38 @@ fn talk_to_end<F: RowTest + Drop, G: RowValue + Drop, R: Threads + Sync, S: Sour
     tell_end(out, end)
 }
 
+/// What a warehouse begins with beside its catalogue: its tables and texts, and the strategy of nights that name none.
+#[derive(Drop)]
+struct Given {
+    opening: Opening,
+    strategy: Option<Vec<u8>>,
+}
+
+/// An opening that was read, and how its warehouse is to be run.
+#[derive(Drop)]
+struct ToRun {
+    how: LiveOptions,
+    opened: OpeningInput,
+}
+
 /// Opens the warehouse of a catalogue from what was read, and talks. The contents of its base are worked out by as many threads as there
 /// are workers. Returns the status.
 fn talk_over<F: RowTest + Drop, G: RowValue + Drop, R: Threads + Sync, S: Source, W: Sink>(
     budget: &ThreadBudget<'_, R>,
     how: LiveOptions,
     catalog: Catalog<F, G>,
-    opening: Opening,
-    strategy: Option<Vec<u8>>,
+    given: Given,
     input: &mut S,
     out: &mut W,
 ) -> u8
     requires catalogue { IsCatalog catalog }
-    requires shown { catalog ≡ catalog_of catalog.views (map shown_view opening.views.items) }
-    requires tables { AreReadTables catalog opening.tables.items }
-    ensures told { result ≢ 5 → IsOpenedAnswer how (record { shape = catalog.views; opening = shown_opening opening; strategy = option_map (λ own. own.items) strategy })
+    requires shown { catalog ≡ catalog_of catalog.views (map shown_view given.opening.views.items) }
+    requires tables { AreReadTables catalog given.opening.tables.items }
+    ensures told { result ≢ 5 → IsOpenedAnswer how (record { shape = catalog.views; opening = shown_opening given.opening; strategy = option_map (λ own. own.items) given.strategy })
         (S.remaining input.old) (S.faults input.old) (S.faults input.new) (W.contents out.old) (W.contents out.new) result }
     ensures failed { (result ≡ 5) ↔ (W.faults out.old < W.faults out.new) }
 {
+    let Given { opening, strategy } = given;
     let Opening {
         views,
         texts,
@@ -153,7 +167,7 @@ fn talk_over<F: RowTest + Drop, G: RowValue + Drop, R: Threads + Sync, S: Source
             return tell(out, answer);
         }
     };
-    let given = StandingTexts {
+    let standing = StandingTexts {
         views,
         texts,
         strategy,
@@ -164,7 +178,7 @@ fn talk_over<F: RowTest + Drop, G: RowValue + Drop, R: Threads + Sync, S: Source
         page_keys: how.page_keys,
         versions: how.versions,
     };
-    match Live::new(budget.alloc, catalog, contents, given, options) {
+    match Live::new(budget.alloc, catalog, contents, standing, options) {
         Ok(live) => talk_to_end(budget, live, input, out),
         Err(AllocError) => want_of_memory(out),
     }
@@ -179,31 +193,31 @@ fn talk_with<
     R: Threads + Sync,
     S: Source,
     W: Sink,
->(
-    budget: &ThreadBudget<'_, R>,
-    how: LiveOptions,
-    opened: OpeningInput,
-    test: T,
-    value: V,
-    input: &mut S,
-    out: &mut W,
-) -> u8
-    requires fit { IsReadOpening opened }
+>(budget: &ThreadBudget<'_, R>, to_run: ToRun, test: T, value: V, input: &mut S, out: &mut W) -> u8
+    requires fit { IsReadOpening to_run.opened }
     requires callable_test { T.IsAlwaysCallable test }
     requires callable_value { V.IsAlwaysCallable value }
     requires tests { AnswersTests (T.post test) F.can_test F.tests }
     requires values { AnswersValues (V.post value) G.can_combine G.combines }
-    ensures told { result ≢ 5 → IsOpenedAnswer how (shown_opening_input opened)
+    ensures told { result ≢ 5 → IsOpenedAnswer to_run.how (shown_opening_input to_run.opened)
         (S.remaining input.old) (S.faults input.old) (S.faults input.new) (W.contents out.old) (W.contents out.new) result }
     ensures failed { (result ≡ 5) ↔ (W.faults out.old < W.faults out.new) }
 {
+    let ToRun { how, opened } = to_run;
     let OpeningInput {
         shape,
         opening,
         strategy,
     } = opened;
     match catalog_with(budget.alloc, shape, &opening.views, test, value) {
-        Ok(catalog) => talk_over(budget, how, catalog, opening, strategy, input, out),
+        Ok(catalog) => talk_over(
+            budget,
+            how,
+            catalog,
+            Given { opening, strategy },
+            input,
+            out,
+        ),
         Err(AllocError) => want_of_memory(out),
     }
 }
@@ -223,8 +237,7 @@ fn talk_from<R: Threads + Sync, S: Source, W: Sink>(
 {
     talk_with(
         budget,
-        how,
-        opened,
+        ToRun { how, opened },
         |pred: Pred| {
             Native(
                 move |row: &[i64]| -> bool
