@@ -1,5 +1,6 @@
 pub mod Bundle
 pub mod Cut
+pub mod Files
 pub mod Find
 pub mod Heading
 pub mod PartFault

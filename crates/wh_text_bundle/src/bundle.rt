@@ -6,6 +6,7 @@ ghost use Rattle.wh_text_bundle.specs.PartFault.{Names};
 
 mod cut;
 pub mod fault;
+pub mod filed;
 pub mod heading;
 mod line;
 mod night;

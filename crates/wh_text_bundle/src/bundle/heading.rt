@@ -3,9 +3,9 @@ use super::piece::InputSlice;
 use super::spelling::{name_after, single_heading};
 
 /// The words of headings that go on with a name.
-const DATA: &[u8] = b"data";
+pub(super) const DATA: &[u8] = b"data";
 
-const CHANGES: &[u8] = b"changes";
+pub(super) const CHANGES: &[u8] = b"changes";
 
 /// How often a heading may stand.
 #[derive(Clone, Copy, Debug, PartialEq, Eq)]

@@ -46,7 +46,7 @@ pub fn name_after<'a>(word: &[u8], text: &'a [u8]) -> Option<&'a [u8]>
 }
 
 /// Returns the text without the blanks at its end.
-fn without_blank_end(text: &[u8]) -> &[u8]
+pub fn without_blank_end(text: &[u8]) -> &[u8]
     ensures { result.now ≡ without_blank_end text.now }
 {
     let mut end = text.len();
@@ -70,7 +70,7 @@ pub fn heading_text(opening: &[u8]) -> &[u8]
 }
 
 /// Returns how many blanks the text begins with.
-fn blanks_len(text: &[u8]) -> usize
+pub fn blanks_len(text: &[u8]) -> usize
     ensures within { result ≤ length text.now }
     ensures value { result ≡ prefix_len is_blank text.now }
 {
