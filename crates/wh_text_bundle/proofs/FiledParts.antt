@@ -111,7 +111,7 @@ filled_before (part ∷ before) rest files h =
 
 filled_unfiled : (parts : List RawPart) (files : List (List ℕ)) → list_all is_unfiled parts ≡ true → filled_parts parts files ≡ bytes_of_parts parts
 filled_unfiled [] files h = refl
-filled_unfiled (part ∷ parts) files h = 
+filled_unfiled (part ∷ parts) files h =
     let each = and_parts (is_unfiled part) (list_all is_unfiled parts) h in
     rw (unfiled part each.0, filled_unfiled parts files each.1) refl
 

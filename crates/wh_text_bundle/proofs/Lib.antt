@@ -1,4 +1,5 @@
 pub mod CutLemmas
+pub mod FileLines
 pub mod FiledParts
 pub mod Fronts
 pub mod NightLemmas

@@ -4,7 +4,8 @@ use Rattle.std.specs.List.{before_first, prefix_len, starts_with, ends_with, lis
 use Rattle.wh_text.specs.Line.{is_blank, whole_lines}
 use Rattle.wh_text_bundle.specs.Cut.{RawPart, bytes_of_part, bytes_of_parts, cut}
 use Rattle.wh_text_bundle.specs.Heading.{heading_text, name_after, without_blank_end}
-use Rattle.wh_text_bundle.specs.PartLine.{is_blank_text}
+use Rattle.wh_text_bundle.specs.PartLine.{is_blank_text, opens_part}
+use Rattle.wh_text_bundle.specs.Text.{body_text}
 
 -- what a heading that names a file says: the heading without it, and the path
 pub record NamedFile : Type 0 where
@@ -90,3 +91,8 @@ pub record IsFirstFiled (text above heading path below : List ℕ) : Type 0 wher
 -- no part's lines stand in a file
 abbrev pub HasNoFiled : List ℕ → Type 0
 HasNoFiled text = list_all is_unfiled (cut text).parts ≡ true
+
+-- what is read of a part is what its file holds, with its last line ended; and no line of it opens a part
+pub record IsReadAsItIs (file : List ℕ) : Type 0 where
+  pub text : body_text true (body_of_file file) ≡ ended file
+  pub closed : list_all (λ line. not (opens_part line)) (whole_lines (body_of_file file)) ≡ true

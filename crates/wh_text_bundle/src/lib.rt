@@ -7,7 +7,7 @@ mod bundle;
 mod read;
 
 pub use bundle::fault::{Nights, PartFault};
-pub use bundle::filed::{FiledPart, first_filed, lines_of_part};
+pub use bundle::filed::{FiledPart, files_are_read_as_they_are, first_filed, lines_of_part};
 pub use bundle::heading::{Heading, Scope};
 pub use bundle::part::Part;
 pub use bundle::piece::InputSlice;

@@ -1,7 +1,7 @@
 //! Parts whose lines stand in a file of their own, as `@data NAME < PATH` says.
-ghost use Rattle.std.specs.Prelude.{◌≡◌, ◌<◌, ◌≤◌, ◌++◌, IsTrue, IfSome, MatchOption, OnErr, OnOk, option_map, None, length, take, drop};
+ghost use Rattle.std.specs.Prelude.{◌≡◌, ◌<◌, ◌≤◌, ℕ, List, ◌++◌, IsTrue, IfSome, MatchOption, OnErr, OnOk, option_map, None, length, take, drop};
 ghost use Rattle.std.specs.List.{position_or_len};
-ghost use Rattle.wh_text_bundle.specs.Files.{HasNoFiled, IsFirstFiled, all_escaped, body_of_file, ended, escaped, filed_part, has_rows, is_sign, named_file};
+ghost use Rattle.wh_text_bundle.specs.Files.{HasNoFiled, IsFirstFiled, IsReadAsItIs, all_escaped, body_of_file, ended, escaped, filed_part, has_rows, is_sign, named_file};
 ghost use Rattle.wh_text_bundle.specs.RawPart.{shown};
 
 use super::cut::{LentPart, first_part, preface_len};
@@ -148,3 +148,8 @@ pub fn lines_of_part(alloc: Global, bytes: &mut Vec<u8>, start: usize) -> Result
     }
     end_line(bytes, start)
 }
+
+/// A law of the definitions: what is read of a part whose lines stand in a file is what the file holds, whatever that is.
+pub fn files_are_read_as_they_are()
+    ensures { (file : List ℕ) → IsReadAsItIs file }
+{}
