@@ -8,6 +8,7 @@ use Rattle.wh_row.specs.Weigh.{Counted}
 use Rattle.wh_dag.specs.Catalog.{is_base, is_empty}
 use Rattle.wh_dag.specs.Shape.{children_of}
 use Rattle.wh_strategy.specs.Rules.{IsCorrect}
+use Rattle.wh_maint.specs.Asked.{AreBags}
 use Rattle.wh_maint.specs.Comp.{bag_at}
 use Rattle.wh_maint.specs.Contents.{AreContents, AreContentsOf}
 use Rattle.wh_maint.specs.Definition.{graph_of}
@@ -47,7 +48,7 @@ use Rattle.wh_core.proofs.Sound.{commits_make_contents, given_at, newest_sound, 
 use Rattle.wh_core.proofs.Counts.{AreDifferences}
 use Rattle.wh_core.proofs.Differences.{are_differences}
 use Rattle.wh_core.proofs.FirstTurn.{first_passed}
-use Rattle.wh_core.proofs.Progress.{all_are_drawn, comps_are_left, one_is_undone, pages_before_comp, pages_in_all}
+use Rattle.wh_core.proofs.Progress.{all_are_drawn, comps_are_left, comps_are_undrawn, one_is_undone, pages_before_comp, pages_in_all}
 use Rattle.wh_core.proofs.Nights.{in_order, last_is}
 use Rattle.wh_core.proofs.Underway.{all-head, all-tail, versions_from-append}
 
@@ -421,8 +422,8 @@ module _ (join : PagesJoin) (stay : VersionsStay) (s : Setup) (events : List Eve
   unfolding published
   opening_made = made_is 0 0 (omega arith)
 
-  versions_made : (k : ℕ) → k ≤ nights_ended end → AreContents (graph_of s.catalog) (bag_at (made k))
-  versions_made k l = (versions_are_contents stay s end k is (leave_legal s [] events replies nothing run) (subst (λ n. k ≤ n) (ended_is s end) l)).0
+  versions_made : (k : ℕ) → k ≤ nights_ended end → AreContents (graph_of s.catalog) (bag_at (made k)) × AreBags s.catalog (made k)
+  versions_made k l = versions_are_contents stay s end k is (leave_legal s [] events replies nothing run) (subst (λ n. k ≤ n) (ended_is s end) l)
 
   -- the nights that have begun are those that have ended, where none is open
   begun_is : (i : ℕ) → is_open (at i) ≡ false → nights_begun (at i) ≡ nights_ended (at i)
@@ -552,7 +553,7 @@ module _ (join : PagesJoin) (stay : VersionsStay) (s : Setup) (events : List Eve
     take_at w r there free (In_wave place jobs drawn) now h =
         ⊎_elim
         (λ t. subst (IsTaken s made (at i) w) (sym t.1) (one_undone opened (one_is_undone s (at i) (deeds_of s (at i) (legal i)) opened place jobs drawn now (le_of jobs drawn t.0))))
-        (λ a. subst (IsTaken s made (at i) w) (sym a.1) (draws drawn there opened free))
+        (λ a. subst (IsTaken s made (at i) w) (sym a.1) (draws drawn given_tonight there (tonight_is i opened).1 free (subst (λ l. jobs_drawn (at i) < comps l) list_is (comps_are_undrawn s (at i) (deeds_of s (at i) (legal i)) opened place jobs drawn now (below jobs drawn a.0)))))
         (decide (nat_le jobs drawn) cause.NoJob (Says (reply.Job drawn)) r h)
     take_at w r there free (At_page place view rows) now h =
         subst (IsTaken s made (at i) w) (sym h) (pages_first given_tonight (tonight_is i opened).1 (unpaged_before place view rows now))

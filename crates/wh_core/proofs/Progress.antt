@@ -166,6 +166,16 @@ module _ (s : Setup) (log : Log) (before : AreDeeds s log) (opened : is_open log
       let all = jobs_are_comps n in
       omega (arith, b, t, some, all)
 
+  -- where a wave is in turn of which a job is not drawn, some Comp is not drawn
+  pub comps_are_undrawn : (place jobs drawn : ℕ) → turn s log ≡ In_wave place jobs drawn → drawn < jobs → jobs_drawn log < comps n.list
+  comps_are_undrawn place jobs drawn at left =
+      let w = wave place jobs drawn at in
+      let a = drawn_so_far in
+      let same = w.2 in
+      let t : jobs_of (legs_of n) ≡ jobs_of u.over + (jobs + jobs_of w.0) = total ∙ ap (λ l. jobs_of u.over + jobs_of l) w.1 in
+      let all = jobs_are_comps n in
+      omega (arith, a, same, t, left, all)
+
   -- where nothing more is in turn, all Comps are drawn
   pub all_are_drawn : turn s log ≡ Over → jobs_drawn log ≡ comps n.list
   all_are_drawn at =

@@ -7,6 +7,7 @@ use Rattle.wh_strategy.specs.declared.expression.Expression.{Expression}
 use Rattle.wh_strategy.specs.declared.expression.Expression.TheVariants.{Comp, Inst}
 use Rattle.wh_row.specs.Row.{Row}
 use Rattle.wh_row.specs.Bag.{SumFits, count, difference_of, written}
+use Rattle.wh_maint.specs.Asked.{AreBags}
 use Rattle.wh_maint.specs.Comp.{bag_at}
 use Rattle.wh_maint.specs.Contents.{AreContents, AreContentsOf}
 use Rattle.wh_maint.specs.Definition.{graph_of}
@@ -98,10 +99,10 @@ pub data IsBegun (s : Setup) (made : ℕ → Contents) (log : Log) : Reply → T
   counts_too_high : is_open log ≡ false → (given : GivenNight) (b : ℕ) → slice_get s.nights (nights_ended log) ≡ Some given → children_of s.catalog.views.children b ≡ []
       → ¬ (SumFits (table_in (made (nights_ended log)) b) (bag_at given.changes b)) → IsBegun s made log (reply.Refused cause.Large)
 
--- Each way to answer a Take. In a night a worker without a job is refused one only where all Comps are drawn, where a drawn one is not done, or
+-- Each way to answer a Take. A job is drawn where not all Comps are. In a night a worker without a job is refused one only where all Comps are drawn, where a drawn one is not done, or
 -- where a row is not put yet that changes in a view whose Inst stands before the next Comp
 pub data IsTaken (s : Setup) (made : ℕ → Contents) (log : Log) (worker : ℕ) : Reply → Type 0 where
-  draws : (n : ℕ) → worker < s.workers → is_open log ≡ true → holding log worker ≡ None → IsTaken s made log worker (reply.Job n)
+  draws : (n : ℕ) (given : GivenNight) → worker < s.workers → IsTonight s log given → holding log worker ≡ None → jobs_drawn log < comps given.list → IsTaken s made log worker (reply.Job n)
   no_worker : s.workers ≤ worker → IsTaken s made log worker (reply.Refused cause.NoWorker)
   outside_nights : is_open log ≡ false → IsTaken s made log worker (reply.Refused cause.NoNight)
   has_a_job : (job : ℕ) → holding log worker ≡ Some job → IsTaken s made log worker (reply.Refused cause.Busy)
@@ -140,12 +141,12 @@ pub data IsRead (s : Setup) (made : ℕ → Contents) (log : Log) (desk view lim
 -- ---- the whole
 
 -- Each event has one reply, as asked or a refusal, and each version contents: version 0 the opening ones, and every version up to the current
--- one those of a base. Left to a legal run is which job is drawn, how many rows a page puts, and when a Done, a PageIn or a Close is refused
+-- one those of a base, with a table for each view. Left to a legal run is which job is drawn, how many rows a page puts, and when a Done, a PageIn or a Close is refused
 pub record ComesTrue (s : Setup) (events : List Event) (replies : List Reply) : Type 0 where
   pub made : ℕ → Contents
   pub each : length replies ≡ length events
   pub opening : made 0 ≡ s.opening
-  pub versions : (k : ℕ) → k ≤ nights_ended (log_after [] events replies) → AreContents (graph_of s.catalog) (bag_at (made k))
+  pub versions : (k : ℕ) → k ≤ nights_ended (log_after [] events replies) → AreContents (graph_of s.catalog) (bag_at (made k)) × AreBags s.catalog (made k)
   pub begins : (place : ℕ) (r : Reply) → IsAnswered events replies place Begin r → IsBegun s made (done_before events replies place) r
   pub takes : (place worker : ℕ) (r : Reply) → IsAnswered events replies place (Take worker) r → IsTaken s made (done_before events replies place) worker r
   pub commits : (place : ℕ) (r : Reply) → IsAnswered events replies place Commit r → IsCommitted s made (done_before events replies place) r
