@@ -23,7 +23,7 @@ use Rattle.wh_carry.specs.Carry.{tables_after}
 use Rattle.wh_carry.specs.Refused.{AreAllowedBelow, ArePassedBelow}
 use Rattle.wh_carry.specs.Steps.{AreSteps}
 use Rattle.wh_carry.specs.declared.report.CarryFault.{CarryFault}
-use Rattle.wh_carry.specs.Night.{Night as NightFrom}
+use Rattle.wh_carry.specs.Night.{Night as NightFrom, night_over}
 use Rattle.wh_night.specs.Refusals.{IsRefusedSo, left_of}
 use Rattle.wh_night.specs.Serving.{rows_of}
 use Rattle.wh_strategy.specs.Rules.{IsCorrect, IsFirstBroken}
@@ -158,7 +158,7 @@ pub record IsShownFrom (night : Night) (printed : Printed) (readers : ℕ) (view
 
 -- the night from these contents, with so many rows an operation
 abbrev pub night_from : Night → List Bag → ℕ → NightFrom
-night_from night old keys = record { catalog = catalog_in night; list = night.given.list; tables = bag_at old; changes = bag_at night.given.changes; keys = keys }
+night_from night old keys = night_over (catalog_in night) night.given.list old night.given.changes keys
 
 -- A night from these contents is refused for this, whatever the number of rows an operation. It is refused by its base changes before it
 -- begins, or, wave by wave, once it has begun
