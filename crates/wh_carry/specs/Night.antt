@@ -1,5 +1,5 @@
 -- A night that is to be carried out, and where carrying out can be refused.
-use Rattle.std.specs.Prelude.{◌≡◌, ℕ, List, [], ◌∷◌, ◌++◌, drop, length}
+use Rattle.std.specs.Prelude.{◌≡◌, ◌⊎◌, ℕ, List, [], ◌∷◌, ◌++◌, drop, length}
 use Rattle.std.specs.List.{All, range_with_len}
 use Rattle.wh_strategy.specs.declared.expression.Expression.{Expression}
 use Rattle.wh_strategy.specs.Expression.{At}
@@ -10,8 +10,8 @@ use Rattle.wh_maint.specs.Comp.{bag_at}
 use Rattle.wh_maint.specs.Definition.{graph_of}
 use Rattle.wh_store.specs.Operations.{Operation, Commits}
 use Rattle.wh_carry.specs.Carry.{State, before}
-use Rattle.wh_carry.specs.NightList.{IsNightList}
-use Rattle.wh_carry.specs.Refused.{AreAllowedBelow, IsPassed, IsStepFault}
+use Rattle.wh_carry.specs.NightList.{IsCutNight, IsNightList}
+use Rattle.wh_carry.specs.Refused.{AreAllowedBelow, ArePassedBelow, IsPassed, IsStepFault}
 
 -- the strategy that is carried out, from which tables, with which changes of the base views, and how many rows a page has at most
 pub record Night : Type 0 where
@@ -30,6 +30,12 @@ pub record IsWhole (n : Night) (ops : List Operation) : Type 0 where
   pub puts : List Operation
   pub night_list : IsNightList n.catalog n.list n.tables n.changes n.keys ops
   pub commits : ops ≡ puts ++ Commits ∷ []
+
+-- what a night has published that ended: its whole list, each of its expressions being passed, or a beginning of it and a give-up
+abbrev pub HasEnded : Night → List Operation → Type 0
+HasEnded n ops =
+    (ArePassedBelow n.catalog n.list n.tables n.changes (length n.list) × IsWhole n ops)
+    ⊎ IsCutNight n.catalog n.list n.tables n.changes n.keys ops
 
 -- what the expressions before this place have made of the tables
 abbrev pub state_at : Night → ℕ → State

@@ -15,9 +15,9 @@ use Rattle.wh_carry.specs.Laws.{PassedHaveValues}
 use Rattle.wh_carry.specs.NightList.{IsBeginning, IsCutNight, IsNightList, night_below, puts_of, whole}
 use Rattle.wh_carry.specs.Refused.{ArePassedBelow, HaveValuesBelow}
 use Rattle.wh_carry.specs.Waves.{expressions_of, stages_of}
-use Rattle.wh_carry.specs.Night.{Night}
+use Rattle.wh_carry.specs.Night.{HasEnded, Night}
 use Rattle.wh_carry.specs.Legs.{Leg, Wave, Page, Remaining, Turn, In_wave, At_page, Over, turn_of}
-use Rattle.wh_core.specs.Laws.{AreNights, IsEnded, IsMadeOfNights, PublishedAreNights, none as no_night, one_more as night_more}
+use Rattle.wh_core.specs.Laws.{AreNights, IsMadeOfNights, PublishedAreNights, none as no_night, one_more as night_more}
 use Rattle.wh_core.specs.Log.{Deed, Log, Began, Drew, Finished, Paged_in, Committed, Gave_up, Sat_down, Turned, Left, last_begun, nights_begun, nights_ended, is_open, pages, holding}
 use Rattle.wh_core.specs.Nights.{Setup, night, night_from, published, remaining, turn}
 use Rattle.wh_core.proofs.Deeds.{AreDeeds, IsDeed, deeds_of, none, one_more}
@@ -149,7 +149,7 @@ ended_of s log = cond (is_open log) (start_of s log) (published s log)
 
 module _ (have : PassedHaveValues) (s : Setup) where
   -- one night more, which has ended so
-  one_night : (log : Log) → AreDeeds s log → is_open log ≡ true → (last : Operation) → ((a : Underway s log) → IsEnded (night s log) (Opens ∷ ops_of a.over ++ last ∷ [])) → AreNights s (nights_ended log) (start_of s log)
+  one_night : (log : Log) → AreDeeds s log → is_open log ≡ true → (last : Operation) → ((a : Underway s log) → HasEnded (night s log) (Opens ∷ ops_of a.over ++ last ∷ [])) → AreNights s (nights_ended log) (start_of s log)
       → AreNights s (nights_ended log + 1) (published s log ++ last ∷ [])
   one_night log before opened last is_ended earlier =
       let a = underway s log before opened in
@@ -161,8 +161,8 @@ module _ (have : PassedHaveValues) (s : Setup) where
       sym (append_assoc (start_of s log) (Opens ∷ ops_of a.over) (last ∷ [])) ∙ ap (λ l. l ++ last ∷ []) (sym a.whole) in
       subst (AreNights s (nights_ended log + 1)) same
       (night_more (nights_ended log) (start_of s log) ops earlier
-      (subst (λ k. IsEnded (night_from s (versions_of s.opening (start_of s log)).newest k) ops) number
-      (subst (λ m. IsEnded m ops) (night-start s log before opened) (is_ended a))))
+      (subst (λ k. HasEnded (night_from s (versions_of s.opening (start_of s log)).newest k) ops) number
+      (subst (λ m. HasEnded m ops) (night-start s log before opened) (is_ended a))))
 
   of_open : (log : Log) → AreNights s (nights_ended log) (ended_of s log) → is_open log ≡ true → AreNights s (nights_ended log) (start_of s log)
   unfolding ended_of
@@ -182,7 +182,10 @@ module _ (have : PassedHaveValues) (s : Setup) where
       subst (λ b. AreNights s (nights_ended log) (cond b (start_of s log) (published s (Paged_in ∷ log)))) (sym deed.0) (of_open log (nights log before) deed.0)
   nights _ (one_more log Committed before deed) =
       one_night log before deed.0 Commits
-      (λ a. inl (record { puts = Opens ∷ ops_of a.over; night_list = ended have (night s log) (start_of s log) (published s log) (remaining s log) (pages log) (holding log) _ _ a deed.1; commits = refl }))
+      (λ a. inl (
+        (whole_puts have (night s log) (start_of s log) (published s log) (remaining s log) (pages log) (holding log) _ _ a deed.1).0,
+        record { puts = Opens ∷ ops_of a.over; night_list = ended have (night s log) (start_of s log) (published s log) (remaining s log) (pages log) (holding log) _ _ a deed.1; commits = refl },
+      ))
       (of_open log (nights log before) deed.0)
   nights _ (one_more log Gave_up before deed) =
       one_night log before deed Gives_up

@@ -15,12 +15,12 @@ use Rattle.wh_maint.specs.Definition.{graph_of}
 use Rattle.wh_maint.specs.Laws.{changed}
 use Rattle.wh_maint.specs.declared.fault.MaintFault.{MaintFault}
 use Rattle.wh_row.specs.Weigh.{Counted}
-use Rattle.wh_carry.specs.NightList.{IsBeginning, IsCutNight}
+use Rattle.wh_carry.specs.NightList.{IsBeginning}
 use Rattle.wh_carry.specs.Refused.{IsBaseFault}
 use Rattle.wh_store.specs.Operations.{Operation}
 use Rattle.wh_store.specs.Pages.{Shown}
 use Rattle.wh_store.specs.Versions.{is_well_formed, number, table_of, version, versions_of}
-use Rattle.wh_carry.specs.Night.{Night, IsFaultAt, IsPassedAt, IsWhole, AreAllowed}
+use Rattle.wh_carry.specs.Night.{Night, HasEnded, IsFaultAt, IsPassedAt, AreAllowed}
 use Rattle.wh_carry.specs.Legs.{Turn, In_wave, At_page, Over}
 use Rattle.wh_core.specs.Log.{Deed, Log, Began, Drew, Finished, Paged_in, Committed, Gave_up, Sat_down, Turned, Left, SessionOf, holding, is_open, last_begun, logged, nights_begun, nights_ended, pages, session}
 use Rattle.wh_core.specs.Nights.{GivenNight, Setup, next_night, night, night_from, published, turn, versions}
@@ -57,14 +57,10 @@ pub record IsSetup (s : Setup) : Type 0 where
 
 -- ---- the published list
 
--- these operations are the night's list with its commit, or it cut
-abbrev pub IsEnded : Night → List Operation → Type 0
-IsEnded n ops = IsWhole n ops ⊎ IsCutNight n.catalog n.list n.tables n.changes n.keys ops
-
 -- operations that are the first nights, so many of them and in their order, each from the contents that were the newest then
 pub data AreNights (s : Setup) : ℕ → List Operation → Type 0 where
   none : AreNights s 0 []
-  one_more : (n : ℕ) (ops last : List Operation) → AreNights s n ops → IsEnded (night_from s (versions_of s.opening ops).newest n) last → AreNights s (n + 1) (ops ++ last)
+  one_more : (n : ℕ) (ops last : List Operation) → AreNights s n ops → HasEnded (night_from s (versions_of s.opening ops).newest n) last → AreNights s (n + 1) (ops ++ last)
 
 -- the published list of a log: as many nights as have ended, and of an open night a beginning of its list, its Begin and the pages put;
 -- each night that began has ended or is open, the open one is the next in order, and no more have begun than were given

@@ -4,11 +4,11 @@ use Rattle.std.proofs.lemmas.List.{append-nil, append_assoc}
 use mathlib.Core.List.{IsPrefix}
 use Rattle.wh_store.specs.Operations.{Operation, Opens, Commits, Gives_up}
 use Rattle.wh_carry.specs.Refused.{ArePassedBelow}
-use Rattle.wh_carry.specs.Night.{Night}
+use Rattle.wh_carry.specs.Night.{HasEnded, Night}
 use Rattle.wh_carry.proofs.NewValues.{passed_have_values}
 use Rattle.wh_night.specs.Tonight.{Begin_it, out_below}
 use Rattle.wh_core.specs.Nights.{Setup}
-use Rattle.wh_headline.specs.RunningNights.{AreEndedNights, AreRunningNights, BeginningsAreRunningNights, CanBegin, HasEnded, all_ended, night_after, none as no_nights, one_more as one_night_more, one_open}
+use Rattle.wh_headline.specs.RunningNights.{AreEndedNights, AreRunningNights, BeginningsAreRunningNights, CanBegin, all_ended, night_after, none as no_nights, one_more as one_night_more, one_open}
 use Rattle.wh_headline.proofs.SeenAlike.{whole_list}
 
 -- ---- beginnings of lists

@@ -8,7 +8,7 @@ use Rattle.wh_carry.specs.NightList.{IsCutNight, puts_of}
 use Rattle.wh_carry.specs.Refused.{ArePassedBelow}
 use Rattle.wh_carry.proofs.NewValues.{passed_have_values}
 use Rattle.wh_carry.proofs.Prefixes.{place_within}
-use Rattle.wh_carry.specs.Night.{Night, IsPassedAt, IsWhole, AreAllowed}
+use Rattle.wh_carry.specs.Night.{AreAllowed, HasEnded, IsPassedAt, IsWhole, Night}
 use Rattle.wh_carry.specs.Legs.{Over, Remaining, turn_of}
 use Rattle.wh_store.specs.Operations.{Operation, Opens, Commits, Gives_up}
 use Rattle.wh_store.specs.Versions.{Versions, after, number, opened, versions_from, versions_of}
@@ -30,7 +30,7 @@ use Rattle.wh_core.proofs.Steps.{le_false, onward}
 use Rattle.wh_core.proofs.Underway.{Underway, of_legs, ops_of, start_of, underway, versions_from-append}
 use Rattle.wh_headline.specs.Alike.{AreSeenAlike}
 use Rattle.wh_headline.specs.Growing.{NightsGoOnAlone}
-use Rattle.wh_headline.specs.RunningNights.{CanBegin, HasEnded, IsLogOf, night_after}
+use Rattle.wh_headline.specs.RunningNights.{CanBegin, IsLogOf, night_after}
 use Rattle.wh_core.specs.Standing.{IsWithin}
 use Rattle.wh_headline.proofs.Going.{alone_nowhere, alone_then, goes_by_one}
 use Rattle.wh_headline.proofs.PageSizes.{any_pages}

@@ -11,7 +11,7 @@ use Rattle.wh_store.specs.Faults.{EndsLater, fault_of}
 use Rattle.wh_store.specs.declared.fault.StoreFault.TheVariants.{NightOpen, LastVersion}
 use Rattle.wh_store.specs.declared.publish_fault.PublishFault.TheVariants.{Held}
 use Rattle.wh_store.specs.Ledgers.{Ledger, Warehouse, closed, gone_out, is_busy, ledger, stays_open, versions_in}
-use Rattle.wh_carry.specs.Night.{Night, AreAllowed}
+use Rattle.wh_carry.specs.Night.{AreAllowed, HasEnded, Night}
 use Rattle.wh_carry.proofs.NewValues.{passed_have_values}
 use Rattle.wh_night.specs.Tonight.{Begin_it, HasStopped, IsNext, IsOpen, Leaves, goes_out, newest_in, out_below, tonight, nothing, put, commit, give_up}
 use Rattle.wh_night.specs.declared.cause.NightCause.{NightCause}
@@ -19,7 +19,7 @@ use Rattle.wh_night.specs.declared.left.Aftermath.{Aftermath}
 use Rattle.wh_night.specs.declared.left.Aftermath.TheVariants.{Untouched, GivenUp, StillOpen}
 use Rattle.wh_core.proofs.Underway.{versions_from-append}
 use Rattle.wh_core.specs.Nights.{GivenNight, Setup}
-use Rattle.wh_headline.specs.RunningNights.{AreEndedNights, GoesOnAs, AreRunningNights, CanBegin, ComesNext, GoOn, HasEnded, NightsGoOn, night_after, one_more}
+use Rattle.wh_headline.specs.RunningNights.{AreEndedNights, GoesOnAs, AreRunningNights, CanBegin, ComesNext, GoOn, NightsGoOn, night_after, one_more}
 use Rattle.wh_headline.proofs.Beginnings.{begun_behind, headed}
 use Rattle.wh_headline.proofs.SeenAlike.{beginning_alike, same_alike}
 

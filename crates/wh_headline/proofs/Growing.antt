@@ -2,7 +2,7 @@
 use Rattle.std.proofs.Common.{◌≡◌, refl, sym, ap, ◌∙◌, subst, ℕ, ◌+◌, List, [], ◌∷◌, ◌++◌, Bool, true, false, arith, ⊎_elim}
 use Rattle.std.proofs.lemmas.List.{append-nil}
 use mathlib.Core.List.{IsPrefix}
-use Rattle.wh_carry.specs.Night.{Night}
+use Rattle.wh_carry.specs.Night.{HasEnded, Night}
 use Rattle.wh_carry.specs.NightList.{puts_of}
 use Rattle.wh_store.specs.Operations.{Operation, Opens, Gives_up}
 use Rattle.wh_store.specs.Versions.{Versions, after, is_active, number, opened, versions_from, versions_of}
@@ -18,7 +18,7 @@ use Rattle.wh_core.proofs.NightLogs.{night_ops}
 use Rattle.wh_core.proofs.Nights.{in_order}
 use Rattle.wh_core.proofs.Underway.{versions_from-append}
 use Rattle.wh_headline.specs.Growing.{LogsGrow}
-use Rattle.wh_headline.specs.RunningNights.{AreEndedNights, AreRunningNights, CanBegin, HasEnded, IsLogOf, all_ended, night_after, none as no_nights, one_more as one_night_more, one_open}
+use Rattle.wh_headline.specs.RunningNights.{AreEndedNights, AreRunningNights, CanBegin, IsLogOf, all_ended, night_after, none as no_nights, one_more as one_night_more, one_open}
 use Rattle.wh_headline.proofs.Beginnings.{empty, headed, of_ended, shorter, splits}
 use Rattle.wh_headline.proofs.Ending.{HasGrown, begun_alike, ends, opens_more}
 use Rattle.wh_headline.proofs.Going.{alone_nowhere, alone_then}

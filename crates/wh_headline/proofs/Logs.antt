@@ -9,7 +9,7 @@ use Rattle.wh_store.specs.Laws.{VersionsStay}
 use Rattle.wh_store.specs.Operations.{Operation, Opens, Gives_up}
 use Rattle.wh_store.specs.Pages.{Contents, page_of}
 use Rattle.wh_store.specs.Versions.{Versions, is_active, kept_count, number, opened, table_in, version, versions_from, versions_of}
-use Rattle.wh_carry.specs.Night.{Night, AreAllowed, IsWhole}
+use Rattle.wh_carry.specs.Night.{AreAllowed, HasEnded, IsWhole, Night}
 use mathlib.Core.List.{IsPrefix}
 use Rattle.wh_desk.specs.Askers.{IsHad}
 use Rattle.wh_desk.specs.Desks.{Grows, SeenVersionsStay, Sitting, versions_seen}
@@ -27,7 +27,7 @@ use Rattle.wh_core.specs.Replies.{nothing}
 use Rattle.wh_core.proofs.NightLogs.{IsOneMore, cut_night, night_ops, open_night, whole_night}
 use Rattle.wh_core.proofs.Underway.{versions_from-append}
 use Rattle.wh_headline.specs.Alike.{AreAlike, AreSeenAlike}
-use Rattle.wh_headline.specs.RunningNights.{AreEndedNights, AreRunningNights, AreSeats, CanBegin, DesksBesideNightsAnswerAsTheMachine, DesksThatLagAnswerAsTheMachine, HasEnded, HaveSeats, IsAnsweredFrom, IsLogOf, IsSeat, RunningNightsHaveALog, WasLeft, all_ended, night_after, none as no_nights, one_more as one_night_more, one_open, set_up_warehouse}
+use Rattle.wh_headline.specs.RunningNights.{AreEndedNights, AreRunningNights, AreSeats, CanBegin, DesksBesideNightsAnswerAsTheMachine, DesksThatLagAnswerAsTheMachine, HaveSeats, IsAnsweredFrom, IsLogOf, IsSeat, RunningNightsHaveALog, WasLeft, all_ended, night_after, none as no_nights, one_more as one_night_more, one_open, set_up_warehouse}
 use Rattle.wh_headline.proofs.Answered.{answered}
 use Rattle.wh_headline.proofs.Beginnings.{beginnings}
 use Rattle.wh_headline.proofs.PageSizes.{any_pages}

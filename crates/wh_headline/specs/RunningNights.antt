@@ -3,7 +3,6 @@ use Rattle.std.specs.Prelude.{◌≡◌, ◌≢◌, ◌⊎◌, ℕ, ◌+◌, ◌
 use mathlib.Core.List.{IsPrefix}
 use Rattle.wh_row.specs.Row.{Row}
 use Rattle.wh_maint.specs.Comp.{bag_at}
-use Rattle.wh_carry.specs.NightList.{IsCutNight}
 use Rattle.wh_carry.specs.Refused.{ArePassedBelow}
 use Rattle.wh_store.specs.Operations.{Operation, Opens}
 use Rattle.wh_store.specs.Pages.{Contents, Shown, page_of}
@@ -12,7 +11,7 @@ use Rattle.wh_store.specs.Faults.{publish_refusal, Ends, EndsLater}
 use Rattle.wh_store.specs.Ledgers.{Ledger, Warehouse}
 use Rattle.wh_store.specs.declared.ended.Ended.{Ended}
 use Rattle.wh_store.specs.Readers.{Bookmark, bookmark_after}
-use Rattle.wh_carry.specs.Night.{Night, AreAllowed, IsWhole}
+use Rattle.wh_carry.specs.Night.{Night, AreAllowed, HasEnded}
 use Rattle.wh_desk.specs.Askers.{IsHad}
 use Rattle.wh_desk.specs.Desks.{Grows, OpensAt, Reads, Sitting}
 use Rattle.wh_desk.specs.Writers.{Writing}
@@ -43,12 +42,6 @@ pub record CanBegin (s : Setup) (ops : List Operation) (n keys : ℕ) : Type 0 w
   pub numbered : number (versions_of s.opening ops) + 1 ≢ 2 ^ 64
   pub allowed : AreAllowed (night_after s ops n keys)
   pub some_keys : 1 ≤ keys
-
--- what a night has published that ended: its whole list, each of its expressions being passed, or a beginning of it and a give-up
-abbrev pub HasEnded : Night → List Operation → Type 0
-HasEnded n ops =
-    (ArePassedBelow n.catalog n.list n.tables n.changes (length n.list) × IsWhole n ops)
-    ⊎ IsCutNight n.catalog n.list n.tables n.changes n.keys ops
 
 -- the lists of so many nights that ended, one after another, each from the contents that were the newest when it began, and by pages of a
 -- size of its own

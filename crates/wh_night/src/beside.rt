@@ -29,7 +29,7 @@ pub struct Beside {
     /// The tables and the report of the night, or why it was refused, as [`night_from`] answers.
     pub night: Result<Carried, NightFault>,
     /// The answers to each reader, in the readers' order; `None` for a reader to which memory was refused. It is `None` for all where
-    /// memory was refused to their list. It would be so, too, where the writer had not all that they saw, which no run comes to.
+    /// memory was refused to their list. It would be so, too, where the writer had not all that they saw, which no test came to.
     pub answered: Option<Vec<Option<Answered>>>,
 }
 
