@@ -84,7 +84,7 @@ ended_above : (front more : List ℕ) → ended (front ++ 10 ∷ more) ≡ front
 ended_above front [] = kept (front ++ 10 ∷ []) (ends-append front 10 [])
 ended_above front (m ∷ ms) =
     let far : ends_with nat_eq (front ++ 10 ∷ m ∷ ms) (10 ∷ []) ≡ ends_with nat_eq (m ∷ ms) (10 ∷ []) =
-        ap (λ bs. ends_with nat_eq bs (10 ∷ [])) (sym (append_assoc front (10 ∷ []) (m ∷ ms))) ∙ ends-append (front ++ 10 ∷ []) m ms in
+    ap (λ bs. ends_with nat_eq bs (10 ∷ [])) (sym (append_assoc front (10 ∷ []) (m ∷ ms))) ∙ ends-append (front ++ 10 ∷ []) m ms in
     above_by front (m ∷ ms) (ends_with nat_eq (m ∷ ms) (10 ∷ [])) refl far (omega arith)
 
 -- a line without a LF
