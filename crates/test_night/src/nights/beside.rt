@@ -21,8 +21,9 @@ use std::thread::Threads;
 use test_given::catalogs::{Cell, Every, joined, one_way};
 use wh_carry::Carried;
 use wh_desk::{Answer, Answered, Ask, Asker, Desk, DeskFault, Reader, Writer};
+use wh_headline::night_with_readers;
 use wh_maint::are_bags;
-use wh_night::{Beside, Gate, NightFault, NightRequest, Watch, current_tables, night_beside};
+use wh_night::{Beside, Gate, NightFault, NightRequest, Watch, current_tables};
 use wh_store::Page;
 use wh_strategy::check;
 
@@ -151,7 +152,7 @@ fn run_beside<R: Threads + Wait + Sync>(
     }
     let views = writer.views();
     let tables = current_tables(asked.budget.alloc, writer, views)?;
-    Ok(night_beside(asked, writer, askers, tables))
+    Ok(night_with_readers(asked, writer, askers, tables))
 }
 
 /// What a reader is answered that asks for a session and for all of v.
