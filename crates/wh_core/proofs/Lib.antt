@@ -14,6 +14,7 @@ pub mod Sound
 pub mod WellFormed
 pub mod Runs
 pub mod Later
+pub mod Waiting
 pub mod Longer
 pub mod Shorter
 pub mod Ones

@@ -1,7 +1,6 @@
 -- Where a machine stands once more nights are given: where it stood.
 use Rattle.std.proofs.Common.{◌≡◌, sym, ap, subst, ◌∙◌, ℕ, zero, suc, List, [], ◌∷◌, ◌++◌, drop, Vec, Option, Some, None}
 use Rattle.std.specs.Prelude.{slice_get}
-use Rattle.std.proofs.lemmas.List.{map-append}
 use Rattle.std.proofs.lemmas.Option.{same_Some}
 use Rattle.std.specs.declared.alloc.Global.{Global}
 use Rattle.wh_dag.specs.Catalog.{CatalogOf}
@@ -14,10 +13,11 @@ use Rattle.wh_core.specs.declared.machine.Machine.{Machine}
 use Rattle.wh_core.specs.declared.warehouse.Core.{Core}
 use Rattle.wh_core.specs.Laws.{IsGivenNight, IsSetup}
 use Rattle.wh_core.specs.Later.{GoesOn}
-use Rattle.wh_core.specs.Log.{Log}
+use Rattle.wh_core.specs.Log.{Log, nights_begun}
 use Rattle.wh_core.specs.Nights.{GivenNight, Setup, remaining_in, with_nights}
-use Rattle.wh_core.specs.Standing.{AreJudged, AreLeft, IsNightFor, KeepsTables, Stands, StandsWith, given_of, nights_of}
+use Rattle.wh_core.specs.Standing.{AreJudged, AreLeft, IsNightFor, KeepsTables, Stands, StandsWith, given_of}
 use Rattle.wh_core.proofs.Later.{all_of, goes_on, still_setup}
+use Rattle.wh_core.proofs.Waiting.{begun_given, waiting_longer}
 
 module _ (s : Setup) (later : List GivenNight) (log : Log) where
   keeps_longer : GoesOn s log later → (kept : Option (Vec Bag Global)) → KeepsTables s log kept → KeepsTables (with_nights s later) log kept
@@ -35,7 +35,6 @@ module _ (s : Setup) (later : List GivenNight) (log : Log) where
         shows = subst (Shows m.store s.opening) (sym g.same_list) h.shows;
         versions = h.versions;
         tables = keeps_longer g m.tables h.tables;
-        begun = h.begun;
         desks = h.desks;
         sessions = h.sessions;
         workers = h.workers;
@@ -50,9 +49,6 @@ one_of P x p (suc n) y at = cc
 
 -- a night more
 module _ (nights : List (Vec Bag Global × Judged)) (night : Vec Bag Global × Judged) where
-  pub nights_longer : nights_of (nights ++ night ∷ []) ≡ nights_of nights ++ given_of night ∷ []
-  nights_longer = map-append given_of nights (night ∷ [])
-
   pub judged_longer : (catalog : CatalogOf) → AreJudged catalog nights → night.1.children ≡ catalog.views.children → AreJudged catalog (nights ++ night ∷ [])
   judged_longer catalog each one =
       let P : Vec Bag Global × Judged → Type 0 = λ given. given.1.children ≡ catalog.views.children in
@@ -61,14 +57,14 @@ module _ (nights : List (Vec Bag Global × Judged)) (night : Vec Bag Global × J
   pub setup_longer : (s : Setup) → IsSetup s → IsGivenNight s.catalog (given_of night) → IsSetup (with_nights s (given_of night ∷ []))
   setup_longer s is one = still_setup s (given_of night ∷ []) is (one_of (IsGivenNight s.catalog) (given_of night) one)
 
-  -- the machine with it
-  pub stands_added : {F G : Type 0} (s : Setup) (log : Log) (core : Core F G) (longer : Vec (Vec Bag Global × Judged) Global) → core.nights.items ≡ nights → longer.items ≡ nights ++ night ∷ []
-      → IsNightFor core night → IsSetup s → StandsWith s log core → IsSetup (with_nights s (given_of night ∷ [])) × StandsWith (with_nights s (given_of night ∷ [])) log (record core { nights = longer })
+  -- the machine with it, whose nights are those of another one
+  pub stands_added : {F G : Type 0} (s : Setup) (log : Log) (core longer : Core F G) → core.nights.items ≡ nights → longer.nights.items ≡ nights ++ night ∷ []
+      → IsNightFor core night → IsSetup s → StandsWith s log core → IsSetup (with_nights s (given_of night ∷ [])) × StandsWith (with_nights s (given_of night ∷ [])) log (record core { nights = longer.nights })
   stands_added s log core longer were are one is h = (
     setup_longer s is (subst (λ catalog. IsGivenNight catalog (given_of night)) h.catalog one.given),
     record {
       catalog = h.catalog;
-      nights = ap nights_of are ∙ nights_longer ∙ ap (λ given. given ++ given_of night ∷ []) (sym (ap nights_of were) ∙ h.nights);
+      nights = waiting_longer given_of core.nights.items longer.nights.items night s.nights (nights_begun log) (begun_given s log h.stands.legal) (are ∙ ap (λ ns. ns ++ night ∷ []) (sym were)) h.nights;
       judged = subst (AreJudged core.catalog) (sym are) (judged_longer core.catalog (subst (AreJudged core.catalog) were h.judged) one.judged);
       keys = h.keys;
       stands = stands_longer s (given_of night ∷ []) log core.machine h.stands;

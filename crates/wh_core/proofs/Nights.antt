@@ -118,7 +118,7 @@ in_order s _ (one_more log (Turned d v page) before deed) = let r = in_order s l
 in_order s _ (one_more log (Left d) before deed) = let r = in_order s log before in record { within = r.within; outside = r.outside }
 
 -- no more nights begin than were given
-within : (s : Setup) (log : Log) → AreDeeds s log → nights_begun log ≤ length s.nights
+pub within : (s : Setup) (log : Log) → AreDeeds s log → nights_begun log ≤ length s.nights
 within s _ none = omega arith
 within s _ (one_more log Began before deed) = let l = deed.1 in omega (arith, l)
 within s _ (one_more log (Drew w k) before deed) = within s log before

@@ -55,7 +55,6 @@ module _ (s : Setup) (log : Log) where
     shows = h.shows;
     versions = h.versions;
     tables = keeps;
-    begun = h.begun;
     desks = h.desks;
     sessions = h.sessions;
     workers = h.workers;

@@ -1,23 +1,19 @@
 -- A machine with its catalogue and its nights.
-use Rattle.std.proofs.Common.{◌≡◌, ◌≢◌, refl, sym, ap, subst, ◌∙◌, ℕ, zero, suc, ◌+◌, ◌-◌, ◌<◌, ◌≤◌, ◌^◌, List, [], ◌∷◌, length, map, Bool, true, false, Vec, Option, Some, None, ◌⊎◌, ⊎_elim, inl, inr, arith}
-use Rattle.std.specs.Prelude.{slice_get, slice_index_or, nat_le, option_map, ◌==◌}
-use Rattle.std.specs.declared.alloc.Global.{Global}
-use Rattle.std.proofs.lemmas.Option.{get_or_from_slice_get, slice_get-map, slice_get_read}
+use Rattle.std.proofs.Common.{◌≡◌, ◌≢◌, refl, sym, ap, subst, ◌∙◌, ℕ, suc, ◌+◌, ◌-◌, ◌<◌, ◌≤◌, ◌^◌, List, [], ◌∷◌, length, true, false, Some, ⊎_elim, inl, inr, arith}
+use Rattle.std.specs.Prelude.{slice_get, slice_index_or, nat_le, ◌==◌}
+use Rattle.std.proofs.lemmas.Option.{get_or_from_slice_get}
 use Rattle.std.specs.List.{AllByRecursion}
 use Rattle.wh_dag.specs.Catalog.{CatalogOf, IsCatalog}
 use Rattle.wh_maint.proofs.FromScratch.{catalogs_are_graphs, values_are_tables}
 use Rattle.wh_store.specs.Kept.{AreTables}
-use Rattle.wh_strategy.specs.Rules.{Judged}
 use Rattle.wh_row.specs.Bag.{Bag, IsTable}
 use Rattle.wh_maint.specs.Asked.{AreBags}
 use Rattle.wh_maint.specs.Comp.{bag_at}
 use Rattle.wh_maint.specs.Contents.{AreContents}
 use Rattle.wh_maint.specs.Definition.{graph_of}
 use Rattle.wh_maint.specs.declared.fault.MaintFault.{MaintFault}
-use Rattle.wh_maint.specs.declared.fault.MaintFault.TheVariants as fault
 use Rattle.wh_carry.specs.Refused.{IsBaseFault}
-use Rattle.wh_store.specs.Pages.{Contents}
-use Rattle.wh_store.specs.Versions.{number, version, versions_of}
+use Rattle.wh_store.specs.Versions.{number, version}
 use Rattle.wh_carry.specs.Night.{places_from}
 use Rattle.wh_carry.specs.Legs.{carried_up_to, legs_of, turn_of, untouched}
 use Rattle.wh_core.specs.declared.event.Event.TheVariants as event
@@ -25,11 +21,11 @@ use Rattle.wh_core.specs.declared.machine.Machine.{Machine}
 use Rattle.wh_core.specs.declared.reply.Cause.TheVariants as cause
 use Rattle.wh_core.specs.declared.reply.Reply.{Reply}
 use Rattle.wh_core.specs.declared.reply.Reply.TheVariants as reply
-use Rattle.wh_core.specs.Laws.{IsGivenNight, IsSetup, VersionsAreContents}
+use Rattle.wh_core.specs.Laws.{IsSetup, VersionsAreContents}
 use Rattle.wh_core.specs.Log.{Log, is_open, nights_begun}
 use Rattle.wh_core.specs.Nights.{GivenNight, Setup, next_night, versions}
 use Rattle.wh_core.specs.Replies.{IsLegalLog, IsReply, IsRuled, Starts, cause_of}
-use Rattle.wh_core.specs.Standing.{Stands, given_of, nights_of}
+use Rattle.wh_core.specs.Standing.{Stands}
 use Rattle.wh_core.proofs.Allowed.{allowed_or_memory}
 use Rattle.wh_core.proofs.Steps.{le_false, le_true, onward, refuse}
 use Rattle.wh_core.proofs.Moves.{not_equal}
@@ -68,17 +64,6 @@ module _ (s : Setup) (log : Log) (m : Machine) (h : Stands s log m) where
         (λ allowed. inl (allowed, inr refl))
         (λ bad. inr (bad.fault, bad.first, ⊎_elim (λ e. inl (ap (λ f. reply.Refused (cause_of f)) (sym e))) (λ large. inr (large, refl)) bad.or_memory))
         (allowed_or_memory (next_night s log).catalog (next_night s log).tables (next_night s log).changes))
-
--- the given night of this number
-module _ (nights : List (Vec Bag Global × Judged)) (n : ℕ) (given : Vec Bag Global × Judged) (l : n < length nights) (is : given ≡ slice_index_or nights n given) where
-  found : slice_get nights n ≡ Some given
-  found = slice_get_read nights (length nights) n given refl l is
-
-  pub given_there : slice_get (nights_of nights) n ≡ Some (given_of given)
-  given_there = slice_get-map given_of nights n ∙ ap (option_map given_of) found
-
-  pub found_there : slice_get nights n ≡ Some given
-  found_there = found
 
 -- the newest contents are contents of a base
 pub newest_is : (s : Setup) (log : Log) → version (versions s log) (number (versions s log)) ≡ (versions s log).newest

@@ -59,7 +59,6 @@ pub record Stands (s : Setup) (log : Log) (m : Machine) : Type 0 where
   pub shows : Shows m.store s.opening (published s log)
   pub versions : m.store.limit ≡ s.versions
   pub tables : KeepsTables s log m.tables
-  pub begun : m.begun ≡ nights_begun log
   pub desks : length m.seats.items ≡ s.desks
   pub sessions : (d : ℕ) → d < s.desks → slice_get (map (option_map session_of) m.seats.items) d ≡ Some (session log d)
   pub workers : length m.holders.items ≡ s.workers
@@ -86,15 +85,15 @@ pub record IsNightFor {F G : Type 0} (core : Core F G) (night : Vec Bag Global �
   pub given : IsGivenNight (catalog_of core) (given_of night)
   pub judged : night.1.children ≡ (catalog_of core).views.children
 
--- so it is of a machine with its catalogue and nights
+-- so it is of a machine with its catalogue and those of its nights that have not begun
 pub record StandsWith {F G : Type 0} (s : Setup) (log : Log) (core : Core F G) : Type 0 where
   pub catalog : core.catalog ≡ s.catalog
-  pub nights : nights_of core.nights.items ≡ s.nights
+  pub nights : nights_of core.nights.items ≡ drop (nights_begun log) s.nights
   pub judged : AreJudged core.catalog core.nights.items
   pub keys : core.keys ≡ s.keys
   pub stands : Stands s log core.machine
 
--- some legal run leaves a machine so with its catalogue and nights
+-- some legal run leaves a machine so
 pub record IsStanding {F G : Type 0} (core : Core F G) : Type 0 where
   pub setup : Setup
   pub log : Log

@@ -28,9 +28,8 @@ use wh_maint::MaintFault;
 use wh_row::Bag;
 use wh_store::{MAX_KEYS, Op, Store, StoreFault, told_law, versions_stay_law, well_formed_law};
 
-/// The versions, the tables that the next night begins from, the sessions of the desks, the jobs of the workers, how many
-/// nights have begun, and of the night that began last what becomes of it, which part of it is in turn, and how many jobs of
-/// that part are drawn and done.
+/// The versions, the tables that the next night begins from, the sessions of the desks, the jobs of the workers, and of the
+/// night that began last what becomes of it, which part of it is in turn, and how many jobs of that part are drawn and done.
 #[derive(Drop)]
 pub(crate) struct Machine {
     pub(crate) alloc: Global,
@@ -39,7 +38,6 @@ pub(crate) struct Machine {
     pub(crate) tables: Option<Vec<Bag>>,
     pub(crate) seats: Vec<Option<Seat>>,
     pub(crate) holders: Vec<Option<usize>>,
-    pub(crate) begun: usize,
     pub(crate) course: Course,
     pub(crate) place: usize,
     pub(crate) drawn: usize,
@@ -149,7 +147,6 @@ impl Machine {
             tables: Some(tables),
             seats,
             holders,
-            begun: 0,
             course: Course {
                 parts: Vec::new(alloc),
                 stop: None,
@@ -285,7 +282,7 @@ impl Machine {
     /// The part in turn is over.
     fn turn_over(&mut self)
         requires { self.old.place < length self.old.course.parts.items }
-        ensures { self.new ≡ record { alloc = self.old.alloc; store = self.old.store; tables = self.old.tables; seats = self.old.seats; holders = self.old.holders; begun = self.old.begun; course = self.old.course; place = self.old.place + 1; drawn = 0; done = 0 } }
+        ensures { self.new ≡ record { alloc = self.old.alloc; store = self.old.store; tables = self.old.tables; seats = self.old.seats; holders = self.old.holders; course = self.old.course; place = self.old.place + 1; drawn = 0; done = 0 } }
     {
         self.place += 1;
         self.drawn = 0;
@@ -351,7 +348,6 @@ impl Machine {
 
     /// Begins the next night, of which this becomes, and which ends with these tables.
     pub(crate) fn start(&mut self, course: Course, last: Option<Vec<Bag>>) -> Reply
-        requires begun { self.old.begun < 2 ^ 63 }
         requires free { refusal self.old.store Opens ≡ None }
         ensures { (s : Setup) (log : Log) → Stands s log self.old → is_open log ≡ false → nights_begun log < length s.nights → number (versions s log) + 1 ≢ 2 ^ 64
             → AreAllowed (next_night s log) → AreParts (next_night s log) 0 (legs_of (next_night s log)) course.parts.items course.stop
@@ -364,7 +360,6 @@ impl Machine {
             return Reply::Refused(Cause::Memory);
         };
         free_all(&mut self.holders);
-        self.begun += 1;
         self.tables = last;
         self.course = course;
         self.place = 0;

@@ -17,6 +17,7 @@ use crate::machine::{Machine, taken};
 use crate::options::MachineOptions;
 use crate::reply::{Cause, Reply, cause_of};
 use std::alloc::{AllocError, Global};
+use std::collections::VecDeque;
 use wh_carry::{base_changes, contents_are_fit_for_nights, course_of};
 use wh_dag::Catalog;
 use wh_formula::{RowTest, RowValue};
@@ -28,7 +29,8 @@ use wh_strategy::Correct;
 pub struct Core<F: RowTest, G: RowValue> {
     alloc: Global,
     catalog: Catalog<F, G>,
-    nights: Vec<(Vec<Bag>, Correct)>,
+    // Those that have not begun, in their order: a night that began leaves nothing here.
+    nights: VecDeque<(Vec<Bag>, Correct)>,
     keys: usize,
     machine: Machine,
 }
@@ -60,7 +62,7 @@ impl<F: RowTest + Drop, G: RowValue + Drop> Core<F, G> {
         Ok(Core {
             alloc,
             catalog,
-            nights,
+            nights: VecDeque::from_vec(nights),
             keys: page_keys,
             machine,
         })
@@ -83,7 +85,7 @@ impl<F: RowTest + Drop, G: RowValue + Drop> Core<F, G> {
         ensures added { OnOk result ((s : Setup) (log : Log) → IsSetup s → StandsWith s log self.old → IsSetup (with_nights s (given_of night ∷ [])) × StandsWith (with_nights s (given_of night ∷ [])) log self.new) }
         ensures memory { OnErr result ((s : Setup) (log : Log) → StandsWith s log self.old → StandsWith s log self.new) }
     {
-        self.nights.push(night)?;
+        self.nights.push_back(night)?;
         Ok(())
     }
 
@@ -98,24 +100,23 @@ impl<F: RowTest + Drop, G: RowValue + Drop> Core<F, G> {
             → IsSetup (with_nights s (given_of night ∷ [])) × StandsWith (with_nights s (given_of night ∷ [])) (Began ∷ log) self.new }
         ensures refused { result ≢ Reply.Begun → (s : Setup) (log : Log) → IsSetup s → StandsWith s log self.old → StandsWith s log self.new }
     {
-        let given = self.nights.len();
-        let Ok(()) = self.nights.push(night) else {
+        let Ok(()) = self.nights.push_back(night) else {
             return Reply::Refused(Cause::Memory);
         };
         match self.begin() {
             Reply::Begun => Reply::Begun,
             refusal => {
-                self.take_back(given);
+                self.take_back();
                 refusal
             }
         }
     }
 
-    /// Keeps this many nights, where none behind them has begun.
-    fn take_back(&mut self, given: usize)
-        ensures { (s : Setup) (log : Log) (later : List GivenNight) → IsLegalLog s log → given ≡ length s.nights → StandsWith (with_nights s later) log self.old → StandsWith s log self.new }
+    /// Takes back the night that was added last, where it has not begun.
+    fn take_back(&mut self)
+        ensures { (s : Setup) (log : Log) (night : GivenNight) → IsLegalLog s log → StandsWith (with_nights s (night ∷ [])) log self.old → StandsWith s log self.new }
     {
-        self.nights.truncate(given);
+        let _last = self.nights.pop_back();
     }
 
     /// Answers an event. An event that is refused, also for want of memory, changes nothing.
@@ -151,15 +152,14 @@ impl<F: RowTest + Drop, G: RowValue + Drop> Core<F, G> {
         if self.machine.store.is_active() {
             return Reply::Refused(Cause::NightOpen);
         }
-        if self.machine.begun >= self.nights.len() {
+        let Some((changes, correct)) = self.nights.front() else {
             return Reply::Refused(Cause::NoNight);
-        }
+        };
         if self.machine.store.number() == u64::MAX {
             return Reply::Refused(Cause::LastVersion);
         }
         versions_are_contents();
         contents_are_fit_for_nights();
-        let (changes, correct) = &self.nights[self.machine.begun];
         let Ok(tables) = taken(self.alloc, &self.machine.store, &mut self.machine.tables) else {
             return Reply::Refused(Cause::Memory);
         };
@@ -178,7 +178,13 @@ impl<F: RowTest + Drop, G: RowValue + Drop> Core<F, G> {
         ) else {
             return Reply::Refused(Cause::Memory);
         };
-        self.machine.start(course, last)
+        match self.machine.start(course, last) {
+            Reply::Begun => {
+                let _begun = self.nights.pop_front();
+                Reply::Begun
+            }
+            refusal => refusal,
+        }
     }
 
     /// Answers events, one after another, from a machine that has done nothing yet.

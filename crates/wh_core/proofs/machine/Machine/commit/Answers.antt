@@ -39,7 +39,6 @@ returns c = λ s log is h.
         shows = c.in-Ok.ensures.shows s.opening (published s log) h.shows;
         versions = ap (λ (w : Window). w.limit) c.in-Ok.ensures.ok ∙ h.versions;
         tables = keeps_committed s log c.versions_stay_law.ensures is h.legal (sym (open_here s log m h) ∙ active) over m.tables h.tables;
-        begun = h.begun;
         desks = h.desks;
         sessions = h.sessions;
         workers = c.free_all.ensures.len ∙ h.workers;

@@ -28,7 +28,6 @@ returns c = λ s log h.
         shows = c.in-Ok.ensures.shows s.opening (published s log) h.shows;
         versions = ap (λ (w : Window). w.limit) c.in-Ok.ensures.ok ∙ h.versions;
         tables = tt;
-        begun = h.begun;
         desks = h.desks;
         sessions = h.sessions;
         workers = c.free_all.ensures.len ∙ h.workers;

@@ -25,7 +25,6 @@ returns c = λ s opening desks workers versions. record {
   shows = subst (λ o. Shows c.in_ok-store.store o []) (c.as_slice.ensures.value ∙ sym opening) c.in_ok-store.ensures.shows;
   versions = c.in_ok-store.ensures.limit ∙ sym versions;
   tables = (λ _. sym opening, λ o. absurd (false≢true o));
-  begun = refl;
   desks = ap length c.in_ok-seats.ensures ∙ so_many c.args.desks None ∙ sym desks;
   sessions = λ d l. slice_get-map (option_map session_of) c.in_ok-seats.seats.items d ∙ ap (λ xs. option_map (option_map session_of) (slice_get xs d)) c.in_ok-seats.ensures
       ∙ ap (option_map (option_map session_of)) (free c.args.desks None d (omega (arith, desks, l)));

@@ -30,7 +30,6 @@ returns c = λ s log h.
         shows = h.shows;
         versions = h.versions;
         tables = h.tables;
-        begun = h.begun;
         desks = search rules;
         sessions = seat_set m.seats.items s.desks c.args.desk (Some new) (session log) (omega arith) h.sessions;
         workers = h.workers;

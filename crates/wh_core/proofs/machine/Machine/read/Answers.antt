@@ -73,7 +73,6 @@ returns c = λ s log h.
         shows = h.shows;
         versions = h.versions;
         tables = h.tables;
-        begun = h.begun;
         desks = search rules;
         sessions = λ w k. seat_set m.seats.items s.desks c.args.desk (Some new) (session log) (omega arith) h.sessions w k ∙ ap Some (turned log c.args.desk w c.args.view c.in-Ok.page of (session_of new) seat left);
         workers = h.workers;

@@ -68,7 +68,6 @@ returns c = λ s log h.
         shows = h.shows;
         versions = h.versions;
         tables = h.tables;
-        begun = h.begun;
         desks = h.desks;
         sessions = h.sessions;
         workers = search rules;
