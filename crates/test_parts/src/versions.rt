@@ -39,7 +39,9 @@ fn assert_slots(rt: &impl Abort, store: &Store, row: &[i64], wanted: &[(u64, i64
         panic!(rt; "no such row")
     };
     for place in 0..wanted.len() {
-        assert_eq!(rt; pairs.pair(place), Some(wanted[place]));
+        let (number, count) = wanted[place];
+        assert_eq!(rt; pairs.pair(place), Some((number, count)));
+        assert_eq!(rt; pairs.read(number), count);
     }
     assert!(rt; pairs.pair(wanted.len()).is_none());
 }

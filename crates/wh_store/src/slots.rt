@@ -1,6 +1,7 @@
 //! Shows what a row counts in the last versions.
 
 ghost use Rattle.std.specs.Prelude.{◌≡◌, slice_get};
+ghost use Rattle.wh_versions.specs.Rows.{read};
 
 use std::marker::Model;
 use wh_versions::VersionRow;
@@ -41,6 +42,18 @@ impl Slots {
             Places::Two(pairs) => pairs.pair(place),
             Places::Three(pairs) => pairs.pair(place),
             Places::Four(pairs) => pairs.pair(place),
+        }
+    }
+
+    /// Returns what a session of this version reads of the row: the count of the newest pair whose number is at most the version's, and 0
+    /// where there is none.
+    pub fn read(&self, version: u64) -> i64
+        ensures { result ≡ read version self.now }
+    {
+        match &self.places {
+            Places::Two(pairs) => pairs.read(version),
+            Places::Three(pairs) => pairs.read(version),
+            Places::Four(pairs) => pairs.read(version),
         }
     }
 }
