@@ -179,10 +179,11 @@ fn a_night_that_is_given_up_makes_the_version_before_again(rt: HostRuntime) -> R
     assert_page(&rt, &store, (0, None, 10), &[1], true)?;
     store.apply(&Op::Begin)?;
     assert!(rt; !store.unexpired(0));
+    assert_eq!(rt; store.night_number(), Some(2));
     store.apply(&put(rt.alloc(), &[(&[2], 0), (&[3], 1)])?)?;
     store.apply(&Op::GiveUp)?;
     assert_eq!(rt; store.number(), 2);
-    assert!(rt; !store.unexpired(0) && !store.is_active());
+    assert!(rt; !store.unexpired(0) && !store.is_active() && store.night_number().is_none());
     assert_page(&rt, &store, (1, None, 10), &[2], true)?;
     assert_page(&rt, &store.copy(rt.alloc())?, (2, None, 10), &[2], true)?;
     Ok(())

@@ -212,6 +212,17 @@ impl<const N: usize> Held<N> {
         self.active
     }
 
+    /// Returns the number of the version that is being written, if a night is open.
+    pub(crate) fn night_number(&self) -> Option<u64>
+        ensures { result ≡ option_map (λ contents. self.now.number + 1) self.now.draft }
+    {
+        if self.active {
+            Some(self.number + 1)
+        } else {
+            None
+        }
+    }
+
     /// Tells whether sessions of this version can be read.
     pub(crate) fn unexpired(&self, version: u64) -> bool
         ensures { result ≡ unexpired self.now version }

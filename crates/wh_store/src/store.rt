@@ -152,6 +152,17 @@ impl Store {
         }
     }
 
+    /// Returns the number of the version that an open night writes, one above the current version's; `None` where no night is open.
+    pub fn night_number(&self) -> Option<u64>
+        ensures { result ≡ option_map (λ contents. self.now.number + 1) self.now.draft }
+    {
+        match &self.held {
+            Depth::Two(held) => held.night_number(),
+            Depth::Three(held) => held.night_number(),
+            Depth::Four(held) => held.night_number(),
+        }
+    }
+
     /// Tells whether sessions of this version can be read.
     pub fn unexpired(&self, version: u64) -> bool
         ensures { result ≡ unexpired self.now version }
