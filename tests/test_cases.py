@@ -1,6 +1,6 @@
 """Tests of trials.program.case_groups: what is wrong with a program is told, whatever it is."""
 
-from trials.program.case_groups import AByteAtATime, BesideAFile, Case, Endless, FromAFolder, TakenByNobody, bounds, limits, words
+from trials.program.case_groups import AByteAtATime, BesideAFile, Case, Endless, FromAFolder, TakenByNobody, bounds, filed, limits, words
 
 
 def test_the_text_the_status_and_standard_error_are_judged(script):
@@ -30,6 +30,19 @@ def test_each_way_in_which_input_comes(script):
 
 def test_a_program_that_knows_one_answer_is_noticed_in_each_group(script):
     known = script("echo memory; exit 4")
-    for group in (words, bounds, limits):
-        cases = [case for case in group.cases() if not callable(case.given)][::10]
+    for group in (words, bounds, limits, filed):
+        cases = [case for case in group.cases() if not callable(case.given) and not isinstance(case, filed.AsFilled)][::10]
         assert all(case.mistake(known) for case in cases)
+
+
+def test_what_a_bundle_is_with_its_files():
+    files = {"t": b"x\n@y"}
+    assert filed.filled(b"@data a<t\n\n@strategy\n", files) == (b"@data a\nx\n@@y\n@strategy\n", None)
+    assert filed.filled(b"@data a < t\nx\n@sizes < t\n", files) == (b"@data a < t\nx\n@sizes < t\n", None)
+    assert filed.filled(b"@data a < u\n@data b < v\n", files) == (None, b"u")
+
+
+def test_answers_that_are_not_those_of_the_filled_bundle_are_noticed(script):
+    case = filed.AsFilled(["cat", "night.bundle"], b"", None, 0, files={"night.bundle": b"@data a < t\n", "t": b"x\n"})
+    assert case.mistake(script('[ "$2" ] && printf "@data a\\nx\\n" || cat')) is None
+    assert case.mistake(script('[ "$2" ] && cat "$2" || cat')) is not None

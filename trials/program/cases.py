@@ -4,17 +4,18 @@
     bounds   what a bundle may hold, up to its bounds and one past each
     sizes    the part of sizes with weights and without: headers, each fault of a record, and which of two is told
     fuzzed   bundles that trials/run program/fuzz has kept
+    filed    bundles whose parts stand in files of their own: what files hold, paths, files that cannot be read, limits and beginnings
     limits   the longest inputs, and the most columns and views
 """
 
 from concurrent.futures import ThreadPoolExecutor
 
 from trials.ended import ended, told
-from trials.program.case_groups import bounds, fuzzed, limits, sizes, words
+from trials.program.case_groups import bounds, filed, fuzzed, limits, sizes, words
 from upkeep.words import program, words_with_program
 
 # Each group, and how many of it are run at once: inputs of the limit take much memory.
-GROUPS = {"words": (words, 4), "bounds": (bounds, 4), "sizes": (sizes, 4), "fuzzed": (fuzzed, 4), "limits": (limits, 1)}
+GROUPS = {"words": (words, 4), "bounds": (bounds, 4), "sizes": (sizes, 4), "fuzzed": (fuzzed, 4), "filed": (filed, 4), "limits": (limits, 1)}
 
 
 def main():

@@ -18,11 +18,11 @@ use Rattle.whview.proofs.Told.{memory_or}
 
 -- a command that opens a warehouse
 pub by_warehouse : (warehouse : ToOpen) (command : Asked) (known : Option (List ℕ)) (faults failed : ℕ) (before after : Option (List ℕ)) (status : ℕ)
-    → IsLiveSo warehouse.how command → file_of command ≡ Some warehouse.path.now → limit_of command ≡ warehouse.limit
-    → IsLiveAnswer warehouse.how warehouse.limit known faults failed before after status → IsAskedAnswer command known faults failed before after status
+    → IsLiveSo warehouse.how command → file_of command ≡ Some warehouse.from.path.now → limit_of command ≡ warehouse.from.limit
+    → IsLiveAnswer warehouse.how warehouse.from.limit known faults failed before after status → IsAskedAnswer command known faults failed before after status
 by_warehouse warehouse (asked.Live how input) known faults failed before after status is names most (inl memory) = once memory.text memory.written (inl memory.told)
 by_warehouse warehouse (asked.Live how input) known faults failed before after status is names most (inr live) =
-    by_talk how input warehouse.path.now refl names
+    by_talk how input warehouse.from.path.now refl names
     (subst (λ h. IsLiveTold h input.limit known faults failed before after status) (sym is) (subst (λ n. IsLiveTold warehouse.how n known faults failed before after status) (sym most) live))
 by_warehouse warehouse (asked.Check costs input) known faults failed before after status is names most live = absurd is
 by_warehouse warehouse (asked.Plan costs budget input) known faults failed before after status is names most live = absurd is

@@ -4,6 +4,7 @@ pub mod TakenWords
 pub mod GivenWords
 pub mod Entered
 pub mod Faults
+pub mod FilledBundles
 pub mod FirstPlaces
 pub mod IfOks
 pub mod LeafRows

@@ -1,5 +1,5 @@
 -- What `live` comes to, from what its parts answer.
-use Rattle.std.proofs.Common.{◌≡◌, ◌≢◌, ◌<◌, ◌≤◌, ◌↔◌, ◌⊎◌, ℕ, List, [], length, Option, None, Some, Result, Ok, Err, inl, inr, refl, sym, ap, subst, ◌∙◌, ⊎_elim, append-nil}
+use Rattle.std.proofs.Common.{◌≡◌, ◌≢◌, ◌<◌, ◌↔◌, ◌⊎◌, ℕ, List, [], length, Option, None, Some, Result, Ok, Err, inl, inr, refl, sym, ap, subst, ◌∙◌, ⊎_elim, append-nil}
 use Rattle.std.specs.Prelude.{IfOk, MatchResult, OnOk}
 use Rattle.std.specs.Io.KnownBytes.{Appends}
 use Rattle.std.proofs.lemmas.List.Elements.{All-nil}
@@ -24,20 +24,23 @@ use Rattle.wh_stay.specs.Standing.{StandingOf}
 use Rattle.wh_text.specs.declared.fault.LoadFault.{LoadFault}
 use Rattle.wh_text.specs.declared.fault.LoadFault.TheVariants as fault
 use Rattle.wh_text_catalogue.specs.ReadCatalog.{catalog_of}
+use Rattle.whview.specs.BundleFiles.{AreFilled}
 use Rattle.whview.specs.CheckOutput.{IsFaultShown}
+use Rattle.whview.specs.Inner.BundleFiles.{IsBundleFault, IsFileFaultShown}
 use Rattle.whview.specs.Inner.FitNight.{AreReadTables}
 use Rattle.whview.specs.Inner.FitReplay.{IsReady}
-use Rattle.whview.specs.Inner.LiveOutput.{IsFileFault, IsLiveAnswer, IsOpenedAnswer, IsOpeningWithin, no_contents, talks, wants_memory}
+use Rattle.whview.specs.Inner.LiveOutput.{IsFaultOfOpening, IsLiveAnswer, IsOpenedAnswer, IsOpeningWithin, no_contents, talks, wants_memory}
 use Rattle.whview.specs.Inner.Output.{IsTold}
-use Rattle.whview.specs.LiveOutput.{IsEndedWith, IsTalkTold, IsWithoutContents, end_text, not_opened, setup_of_live, standing_in, talked}
+use Rattle.whview.specs.LiveOutput.{IsEndedWith, IsNotOpened, IsTalkTold, IsWithoutContents, end_text, not_opened, setup_of_live, standing_in, talked}
 use Rattle.whview.specs.NightOutput.{refused_text}
-use Rattle.whview.specs.Output.{Bytes, Failed, too_long, within}
 use Rattle.whview.specs.Status.{status_number}
 use Rattle.whview.specs.declared.answer.Answer.{Answer}
+use Rattle.whview.specs.declared.files.FileFault.{FileFault}
+use Rattle.whview.specs.declared.files.FileFault.TheVariants.{Input}
 use Rattle.whview.specs.declared.live_options.LiveOptions.{LiveOptions}
 use Rattle.whview.specs.declared.status.Status.TheVariants.{Negative}
 use Rattle.whview.proofs.NightDecided.{AreOpenedBy, opened_by}
-use Rattle.whview.proofs.Outputs.{longer}
+use Rattle.whview.proofs.Outputs.{bundle_fault, filled_answer}
 use Rattle.whview.proofs.ReplayDecided.{is_ready}
 
 -- ---- the machine
@@ -143,22 +146,17 @@ module _ (how : LiveOptions) (cat : CatalogOf) (opening : Opening) (strategy : O
 
 -- ---- a file
 
--- why the bytes of a file cannot be had
-pub bytes_fault : (limit : ℕ) (f : LoadFault) → (f ≡ fault.Read) ⊎ ((f ≡ fault.TooLong) ⊎ (f ≡ fault.Memory)) → f ≢ fault.Memory → IsFileFault limit f
-bytes_fault limit f (inl read) told text status shown = (Failed, subst (λ x. IsFaultShown x text status) read shown)
-bytes_fault limit f (inr (inl long)) told text status shown =
-    let many = longer limit in (Bytes many.0, too_long many.1 (subst (λ x. IsFaultShown x text status) long shown))
-bytes_fault limit f (inr (inr memory)) told text status shown = absurd (told memory)
+-- why a file and those that it names cannot be had
+pub files_fault : (limit : ℕ) (f : FileFault) → IsBundleFault limit f → IsFaultOfOpening limit f
+files_fault limit f why told text status shown = bundle_fault limit IsNotOpened f why told text status shown
 
 -- the bytes do not give an opening
-pub opening_fault : (limit : ℕ) (bytes : List ℕ) (f : LoadFault) → length bytes ≤ limit → (f ≡ fault.Memory) ⊎ (opening_of bytes ≡ Err f) → f ≢ fault.Memory → IsFileFault limit f
-opening_fault limit bytes f fits why told text status shown =
+pub opening_fault : (limit : ℕ) (bytes : List ℕ) (f : LoadFault) → AreFilled limit bytes → (f ≡ fault.Memory) ⊎ (opening_of bytes ≡ Err f) → IsFaultOfOpening limit (Input f)
+opening_fault limit bytes f had why told text status shown =
     ⊎_elim
-    (λ memory. absurd (told memory))
-    (λ e. (
-      Bytes bytes,
-      within fits (subst (λ r. MatchResult r (λ o. IsWithoutContents o text status) (λ x. IsFaultShown x text status)) (sym e) shown),
-    ))
+    (λ memory. absurd (told (ap Input memory)))
+    (λ e. filled_answer limit IsNotOpened bytes text status had
+    (subst (λ r. MatchResult r (λ o. IsWithoutContents o text status) (λ x. IsFaultShown x text status)) (sym e) shown))
     why
 
 -- ---- all of it
@@ -168,17 +166,15 @@ pub live_opened : (how : LiveOptions) (limit : ℕ) (o : OpeningOf) (known : Opt
     → IsOpeningWithin limit o → IsOpenedAnswer how o known faults failed before after status → IsLiveAnswer how limit known faults failed before after status
 live_opened how limit o known faults failed before after status from (wants_memory memory) = inl memory
 live_opened how limit o known faults failed before after status from (no_contents text written kept none) =
-    inr (not_opened text written kept (
-      Bytes from.bytes,
-      within from.within (subst (λ r. MatchResult r (λ x. IsWithoutContents x text status) (λ x. IsFaultShown x text status)) (sym from.read) none),
-    ))
-live_opened how limit o known faults failed before after status from (talks tables opened is told) = inr (talked from.bytes o tables from.within from.read opened is told)
+    inr (not_opened text written kept (filled_answer limit IsNotOpened from.bytes text status from.had
+    (subst (λ r. MatchResult r (λ x. IsWithoutContents x text status) (λ x. IsFaultShown x text status)) (sym from.read) none)))
+live_opened how limit o known faults failed before after status from (talks tables opened is told) = inr (talked from.bytes o tables from.had from.read opened is told)
 
 -- a file that does not open
-pub live_fault : {E : Type 0} (how : LiveOptions) (limit : ℕ) (f : LoadFault) (answer : Result Answer E) (known : Option (List ℕ)) (faults : ℕ) (before after : Option (List ℕ)) (status : ℕ)
-    → (f ≢ fault.Memory → IsFileFault limit f) → IfOk answer (λ a. IsFaultShown f a.text (status_number a.status)) → OnOk answer (f ≢ fault.Memory)
+pub live_fault : {E : Type 0} (how : LiveOptions) (limit : ℕ) (f : FileFault) (answer : Result Answer E) (known : Option (List ℕ)) (faults : ℕ) (before after : Option (List ℕ)) (status : ℕ)
+    → IsFaultOfOpening limit f → IfOk answer (λ a. IsFileFaultShown f a.text (status_number a.status)) → OnOk answer (f ≢ Input fault.Memory)
     → (text : List ℕ) → Appends before after text → IsTold answer text status → IsLiveAnswer how limit known faults faults before after status
 live_fault how limit f (Ok a) known faults before after status why shown told text written is =
     inr (not_opened text written refl
-    (why told text status (subst (λ n. IsFaultShown f text n) (sym is.1) (subst (λ t. IsFaultShown f t (status_number a.status)) (sym is.0) shown))))
+    (why told text status (subst (λ n. IsFileFaultShown f text n) (sym is.1) (subst (λ t. IsFileFaultShown f t (status_number a.status)) (sym is.0) shown))))
 live_fault how limit f (Err e) known faults before after status why shown told text written is = inl (record { text = text; written = written; told = is })

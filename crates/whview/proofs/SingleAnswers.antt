@@ -339,14 +339,14 @@ none_refused (x ∷ xs) k e among = cc
 not_refused : (words : List (List ℕ)) (status : ℕ) → words_fault words ≡ [] → IsRefused words status → ⊥
 not_refused words status taken is = none_refused _ is.kind taken is.found
 
-from_reader : (limit : ℕ) (file : Option (List ℕ)) (reading : Reading) (of : List ℕ → List ℕ → ℕ → Type 0) (text : List ℕ) (status : ℕ) → file ≡ None
-    → IsSourceAnswer limit file reading of text status → IsReadAnswer limit reading of text status
-from_reader limit None reading of text status e is = is
-from_reader limit (Some path) reading of text status e is = let bad : ⊥ = cc in absurd bad
+from_reader : (command : Asked) (file : Option (List ℕ)) (reading : Reading) (text : List ℕ) (status : ℕ) → file ≡ None
+    → IsSourceAnswer command file reading text status → IsReadAnswer (limit_of command) reading (IsCommandOutput command) text status
+from_reader command None reading text status e is = is
+from_reader command (Some path) reading text status e is = let bad : ⊥ = cc in absurd bad
 
 -- what is printed of a command other than `live`, where this was read of a reader or a file
 once : (command : Asked) (reading : Reading) (text : List ℕ) (status : ℕ) → is_live command ≡ false
-    → IsAskedOutput command reading text status → IsSourceAnswer (limit_of command) (file_of command) reading (IsCommandOutput command) text status
+    → IsAskedOutput command reading text status → IsSourceAnswer command (file_of command) reading text status
 once (asked.Check costs input) reading text status e is = is
 once (asked.Plan costs budget input) reading text status e is = is
 once (asked.Certify costs input) reading text status e is = is
@@ -394,7 +394,7 @@ handed_once words command reading text status ask none other f =
     let own = handed words reading text status ask.taken f in
     read_as (limit_of command) reading (IsCommandOutput own.0) (IsCommandOutput command) text status (λ bytes. one_asked _ command own.0 ask.asked own.1.asked bytes text status)
     (subst (λ limit. IsReadAnswer limit reading (IsCommandOutput own.0) text status) (one_limit _ command own.0 ask.asked own.1.asked)
-    (from_reader (limit_of own.0) (file_of own.0) reading (IsCommandOutput own.0) text status (one_file _ command own.0 ask.asked own.1.asked ∙ none)
+    (from_reader own.0 (file_of own.0) reading text status (one_file _ command own.0 ask.asked own.1.asked ∙ none)
     (once own.0 reading text status (one_kind _ command own.0 ask.asked own.1.asked ∙ other) own.2)))
 
 handed_live : (words : List (List ℕ)) (command : Asked) (reading : Reading) (text : List ℕ) (status : ℕ) → AskFor words command → file_of command ≡ None → is_live command ≡ true

@@ -1,3 +1,4 @@
+pub mod BundleFiles
 pub mod CommandLine
 pub mod Difference
 pub mod FitNight

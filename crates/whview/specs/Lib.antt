@@ -1,3 +1,4 @@
+pub mod BundleFiles
 pub mod CertifyOutput
 pub mod CheckOutput
 pub mod CommandFault

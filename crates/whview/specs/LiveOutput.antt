@@ -1,6 +1,6 @@
 -- What `live` comes to: a warehouse is opened from the bytes of a file, and commands are answered for as long as they come. And what the
 -- program comes to for words that were handed in, `live` among them.
-use Rattle.std.specs.Prelude.{◌≡◌, ◌<◌, ◌≤◌, ◌↔◌, ◌⊎◌, ℕ, List, [], length, Option, Some, codes, Ok, MatchResult}
+use Rattle.std.specs.Prelude.{◌≡◌, ◌<◌, ◌↔◌, ◌⊎◌, ℕ, List, [], Option, Some, codes, Ok, MatchResult}
 use Rattle.std.specs.Io.KnownBytes.{Appends}
 use Rattle.wh_core.specs.Laws.{IsSetup}
 use Rattle.wh_core.specs.Log.{Log}
@@ -16,9 +16,10 @@ use Rattle.wh_opening.specs.OpeningRead.{OpeningOf, opening_of}
 use Rattle.wh_row.specs.Bag.{Bag}
 use Rattle.wh_stay.specs.Standing.{StandingOf}
 use Rattle.wh_text_catalogue.specs.ReadCatalog.{catalog_of}
+use Rattle.whview.specs.BundleFiles.{AreFilled}
 use Rattle.whview.specs.CheckOutput.{IsFaultShown, line}
 use Rattle.whview.specs.NightOutput.{AreOpened, refused_text}
-use Rattle.whview.specs.Output.{AskFor, HoldsOfFile, HoldsOfReading, IsHandedOutput, IsMemoryTold, IsReadAnswer, file_of}
+use Rattle.whview.specs.Output.{AskFor, HoldsOfFile, HoldsOfReading, IsFilledAnswer, IsHandedOutput, IsMemoryTold, IsReadAnswer, file_of}
 use Rattle.whview.specs.declared.command_line.Asked.TheVariants as asked
 use Rattle.whview.specs.declared.data_input.DataInput.{DataInput}
 use Rattle.whview.specs.declared.live_options.LiveOptions.{LiveOptions}
@@ -81,12 +82,12 @@ pub record IsTalkTold (s : Setup) (log : Log) (w : StandingOf) (known : Option (
 
 -- ---- all of it
 
--- What `live` comes to over a file of which at most so many bytes are read, and the status. The file does not open, which is printed, and
--- the reader is left as it was. Or it opens, and there is a talk over the contents of its base.
+-- What `live` comes to over a file of which at most so many bytes are read, with those of the files that it names, and the status. The file
+-- does not open, which is printed, and the reader is left as it was. Or it opens, and there is a talk over the contents of its base.
 pub data IsLiveTold (how : LiveOptions) (limit : ℕ) (known : Option (List ℕ)) (faults failed : ℕ) (before after : Option (List ℕ)) (status : ℕ) : Type 0 where
-  not_opened : (text : List ℕ) → Appends before after text → failed ≡ faults → HoldsOfFile (λ reading. IsReadAnswer limit reading IsNotOpened text status)
+  not_opened : (text : List ℕ) → Appends before after text → failed ≡ faults → HoldsOfFile (λ reading. IsReadAnswer limit reading (λ bundle. IsFilledAnswer limit bundle IsNotOpened) text status)
       → IsLiveTold how limit known faults failed before after status
-  talked : (bytes : List ℕ) (o : OpeningOf) (tables : List Bag) → length bytes ≤ limit → opening_of bytes ≡ Ok o → AreOpened o.shape o.opening tables
+  talked : (bytes : List ℕ) (o : OpeningOf) (tables : List Bag) → AreFilled limit bytes → opening_of bytes ≡ Ok o → AreOpened o.shape o.opening tables
       → IsSetup (setup_of_live how o tables) → IsTalkTold (setup_of_live how o tables) [] (standing_in o) known faults failed before after status
       → IsLiveTold how limit known faults failed before after status
 

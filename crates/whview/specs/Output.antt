@@ -1,10 +1,12 @@
 -- What the program prints for words and what it reads, and the status that it ends with.
-use Rattle.std.specs.Prelude.{◌≡◌, ◌<◌, ◌≤◌, ℕ, List, [], length, Option, None, Some, IfSome, IsSome, codes, option_map, true, false}
+use Rattle.std.specs.Prelude.{◌≡◌, ◌<◌, ◌≤◌, ◌++◌, ℕ, List, [], length, Bool, Option, None, Some, IfSome, IsSome, codes, option_map, true, false}
 use Rattle.std.specs.List.{list_any}
 use Rattle.std.specs.Str.{is_utf8}
 use Rattle.clap.specs.Words.{IsAmong, subcommand_of}
 use Rattle.clap.specs.declared.error.kind.ErrorKind.{ErrorKind}
 use Rattle.wh_text.specs.declared.fault.LoadFault.TheVariants as fault
+use Rattle.wh_text_bundle.specs.Files.{filled}
+use Rattle.whview.specs.BundleFiles.{AreOfItsFiles, NamesFile}
 use Rattle.whview.specs.CertifyOutput.{IsCertifyOutput}
 use Rattle.whview.specs.CheckOutput.{IsCheckOutput, IsFaultShown, line}
 use Rattle.whview.specs.CommandFault.{status_of_kind}
@@ -48,6 +50,13 @@ limit_of (asked.Night how input) = input.limit
 limit_of (asked.Replay input) = input.limit
 limit_of (asked.Live how input) = input.limit
 limit_of _ = usual_limit
+
+-- the command reads rows: the headings of its bundle, where that is a file, may name further files
+abbrev pub reads_rows : Asked → Bool
+reads_rows (asked.Night how input) = true
+reads_rows (asked.Replay input) = true
+reads_rows (asked.Live how input) = true
+reads_rows command = false
 
 -- the command reads the program's reader: `live` where it names a file, and any other where it names none
 abbrev pub ReadsInput : Asked → Type 0
@@ -93,6 +102,30 @@ abbrev pub IsReadAnswer : ℕ → Reading → (List ℕ → List ℕ → ℕ →
 IsReadAnswer limit (Bytes bytes) of text status = IsLimited limit bytes (of bytes) text status
 IsReadAnswer limit Failed of text status = IsFaultShown fault.Read text status
 
+-- ---- files that a bundle names
+
+-- what is printed where a file cannot be read that a bundle names by this path, and the status
+pub record IsNamedUnread (path text : List ℕ) (status : ℕ) : Type 0 where
+  pub printed : text ≡ line (codes "fault read " ++ path)
+  pub ended : status ≡ 3
+
+-- What is printed for a bundle that was read from a file, and the status, where this is printed for bytes. A file that it names cannot be
+-- read; or there are bytes of each, and with their lines in the places of the parts that name them the bundle is what is answered, unless it
+-- is longer then than the limit. Which bytes a file holds no clause says.
+pub data IsFilledAnswer (limit : ℕ) (bundle : List ℕ) (of : List ℕ → List ℕ → ℕ → Type 0) (text : List ℕ) (status : ℕ) : Type 0 where
+  unread : (path : List ℕ) → NamesFile bundle path → IsNamedUnread path text status → IsFilledAnswer limit bundle of text status
+  had : (files : List (List ℕ)) → AreOfItsFiles bundle files → IsLimited limit (filled bundle files) (of (filled bundle files)) text status
+      → IsFilledAnswer limit bundle of text status
+
+-- what is printed for a bundle that was read from a file, and the status: its headings may name files, or may not
+abbrev pub IsBundleAnswer : Bool → ℕ → (List ℕ → List ℕ → ℕ → Type 0) → List ℕ → List ℕ → ℕ → Type 0
+IsBundleAnswer true limit of bundle text status = IsFilledAnswer limit bundle of text status
+IsBundleAnswer false limit of bundle text status = of bundle text status
+
+-- what a command prints for a bundle that was read from a file, and the status
+abbrev pub IsFileOutput : Asked → List ℕ → List ℕ → ℕ → Type 0
+IsFileOutput command bundle text status = IsBundleAnswer (reads_rows command) (limit_of command) (IsCommandOutput command) bundle text status
+
 -- ---- what words ask for
 
 -- these words are no command line, or ask for help. The text is not promised, and the status is that of what is wrong with them
@@ -113,10 +146,10 @@ pub data IsWordsAnswer (words : List (List ℕ)) (of : Asked → List ℕ → �
 
 -- ---- words that were handed in
 
--- what is printed where this was read of the program's reader up to a limit; of a file, where one is named, anything may have been
-abbrev pub IsSourceAnswer : ℕ → Option (List ℕ) → Reading → (List ℕ → List ℕ → ℕ → Type 0) → List ℕ → ℕ → Type 0
-IsSourceAnswer limit None reading of text status = IsReadAnswer limit reading of text status
-IsSourceAnswer limit (Some path) reading of text status = HoldsOfFile (λ own. IsReadAnswer limit own of text status)
+-- what is printed of a command where this was read of the program's reader; of a file, where one is named, anything may have been
+abbrev pub IsSourceAnswer : Asked → Option (List ℕ) → Reading → List ℕ → ℕ → Type 0
+IsSourceAnswer command None reading text status = IsReadAnswer (limit_of command) reading (IsCommandOutput command) text status
+IsSourceAnswer command (Some path) reading text status = HoldsOfFile (λ own. IsReadAnswer (limit_of command) own (IsFileOutput command) text status)
 
 -- what is printed of `live` where it names this file or none: that it needs one. Where it names one, there is no single answer
 abbrev pub IsUnopened : Option (List ℕ) → List ℕ → ℕ → Type 0
@@ -126,7 +159,7 @@ IsUnopened (Some path) text status = ⊥
 -- what is printed of a command that was handed in, and the status, where this was read of the program's reader
 abbrev pub IsAskedOutput : Asked → Reading → List ℕ → ℕ → Type 0
 IsAskedOutput (asked.Live how input) reading text status = IsUnopened (file_of (asked.Live how input)) text status
-IsAskedOutput command reading text status = IsSourceAnswer (limit_of command) (file_of command) reading (IsCommandOutput command) text status
+IsAskedOutput command reading text status = IsSourceAnswer command (file_of command) reading text status
 
 -- what the program prints for words that were handed in, and the status, where this was read of its reader
 abbrev pub IsHandedOutput : List (List ℕ) → Reading → List ℕ → ℕ → Type 0

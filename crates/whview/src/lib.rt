@@ -14,6 +14,7 @@ mod certify;
 mod check;
 mod command_line;
 mod data_input;
+mod files;
 mod laws;
 mod live;
 mod live_options;

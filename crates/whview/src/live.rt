@@ -1,6 +1,6 @@
 //! Does the command `live`: opens a warehouse from the bytes of a file, and answers commands for as long as they come.
 
-ghost use Rattle.std.specs.Prelude.{◌≡◌, ◌≢◌, ◌≤◌, ◌<◌, ◌↔◌, ◌⊎◌, IfErr, IfOk, IsTrue, length, map, option_map, vec_len};
+ghost use Rattle.std.specs.Prelude.{◌≡◌, ◌≢◌, ◌<◌, ◌↔◌, IfErr, IfOk, IsTrue, length, map, option_map};
 ghost use Rattle.std.specs.Io.KnownBytes.{Appends};
 ghost use Rattle.wh_core.specs.Laws.{IsSetup};
 ghost use Rattle.wh_core.specs.Log.{Log};
@@ -15,28 +15,29 @@ ghost use Rattle.wh_stay.specs.Standing.{IsLive, core_of, standing_of};
 ghost use Rattle.wh_text_catalogue.specs.Definitions.{shown_view};
 ghost use Rattle.wh_text_catalogue.specs.ReadCatalog.{catalog_of};
 ghost use Rattle.whview.specs.Inner.FitNight.{AreReadTables};
-ghost use Rattle.whview.specs.Inner.LiveOutput.{IsFileFault, IsLiveAnswer, IsOpenedAnswer, IsOpeningWithin};
+ghost use Rattle.whview.specs.Inner.LiveOutput.{IsFaultOfOpening, IsLiveAnswer, IsOpenedAnswer, IsOpeningWithin};
 ghost use Rattle.whview.specs.Inner.StoredClosures.{AnswersTests, AnswersValues};
 ghost use Rattle.whview.specs.LiveOutput.{IsEndedWith, IsTalkTold, end_text};
 ghost use Rattle.whview.specs.NightOutput.{refused_text};
 
 use crate::answer::{Answer, cause_text};
 use crate::catalogue::catalog_with;
+use crate::files::{BundleFile, FileFault, bundle_in};
 use crate::live_options::LiveOptions;
 use crate::status::Status;
 use crate::tell::{OUTPUT_FAILED, give, tell, want_of_memory};
 use std::alloc::{AllocError, Global};
-use std::fs::{self, Files};
+use std::fs::Files;
 use std::thread::Threads;
 use wh_core::MachineOptions;
 use wh_dag::{Catalog, Shape};
 use wh_dialogue::{TalkEnd, talk};
 use wh_formula::{Expr, Native, Pred, RowTest, RowValue};
-use wh_load::{LentChunks, LoadFault, Opening, ReadFault, read_all};
+use wh_load::{LentChunks, Opening};
 use wh_maint::{MaintFault, opening_contents};
 use wh_opening::{OpeningInput, read_opening};
 use wh_stay::{Live, StandingTexts};
-use wh_stream::{CountedStream, Sink, Source};
+use wh_stream::{Sink, Source};
 use wh_threads::ThreadBudget;
 
 /// A warehouse that is to be opened: how large its machine is, and what it begins from.
@@ -45,41 +46,23 @@ pub struct ToOpen<'a> {
     /// The size of its machine.
     pub how: LiveOptions,
     /// The file of its opening.
-    pub path: &'a str,
-    /// The most bytes that the file may have.
-    pub limit: usize,
+    pub from: BundleFile<'a>,
 }
 
-/// All bytes of a file, or the fault of an input where they cannot be had.
-fn bytes_of<E: Files>(rt: &E, alloc: Global, path: &str, limit: usize) -> Result<Vec<u8>, LoadFault>
-    ensures within { IfOk result (λ bytes. vec_len bytes ≤ limit) }
-    ensures err { IfErr result (λ f. (f ≡ LoadFault.Read) ⊎ ((f ≡ LoadFault.TooLong) ⊎ (f ≡ LoadFault.Memory))) }
-{
-    let Ok(file) = fs::open(rt, path) else {
-        return Err(LoadFault::Read);
-    };
-    match read_all(&mut CountedStream::new(file), alloc, limit) {
-        Ok(bytes) => Ok(bytes),
-        Err(ReadFault::Read) => Err(LoadFault::Read),
-        Err(ReadFault::TooLong) => Err(LoadFault::TooLong),
-        Err(ReadFault::Memory) => Err(LoadFault::Memory),
-    }
-}
-
-/// Reads the opening of a warehouse from a file. What the file holds, and when it fails, no contract can say: the answer is the one to some
-/// bytes, or to a failure. The bytes themselves are not kept.
+/// Reads the opening of a warehouse from a file, and from those that it names. What files hold, and when they fail, no contract can say: the
+/// answer is the one to some bytes, or to a failure. The bytes themselves are not kept.
 fn opening_of<E: Files + Threads + Sync>(
     budget: &ThreadBudget<'_, E>,
-    path: &str,
-    limit: usize,
-) -> Result<OpeningInput, LoadFault>
-    ensures ok { IfOk result (λ o. IsOpeningWithin limit (shown_opening_input o)) }
+    from: &BundleFile<'_>,
+) -> Result<OpeningInput, FileFault>
+    ensures ok { IfOk result (λ o. IsOpeningWithin from.now.limit (shown_opening_input o)) }
     ensures fit { IfOk result IsReadOpening }
-    ensures err { IfErr result (λ f. f ≢ LoadFault.Memory → IsFileFault limit f) }
+    ensures err { IfErr result (IsFaultOfOpening from.now.limit) }
 {
-    match bytes_of(budget.rt, budget.alloc, path, limit) {
-        Ok(bytes) => read_opening(budget, &bytes),
-        Err(fault) => Err(fault),
+    let bytes = bundle_in(budget.rt, budget.alloc, from)?;
+    match read_opening(budget, &bytes) {
+        Ok(opened) => Ok(opened),
+        Err(fault) => Err(FileFault::Input(fault)),
     }
 }
 
@@ -266,7 +249,7 @@ pub fn open_and_talk<E: Files + Threads + Sync, S: Source, W: Sink>(
     input: &mut S,
     out: &mut W,
 ) -> u8
-    ensures told { result ≢ 5 → IsLiveAnswer warehouse.now.how warehouse.now.limit
+    ensures told { result ≢ 5 → IsLiveAnswer warehouse.now.how warehouse.now.from.limit
         (S.remaining input.old) (S.faults input.old) (S.faults input.new) (W.contents out.old) (W.contents out.new) result }
     ensures failed { (result ≡ 5) ↔ (W.faults out.old < W.faults out.new) }
 {
@@ -275,8 +258,8 @@ pub fn open_and_talk<E: Files + Threads + Sync, S: Source, W: Sink>(
         alloc,
         threads: warehouse.how.workers,
     };
-    match opening_of(&budget, warehouse.path, warehouse.limit) {
+    match opening_of(&budget, &warehouse.from) {
         Ok(opened) => talk_from(&budget, warehouse.how, opened, input, out),
-        Err(fault) => tell(out, Answer::fault(alloc, &fault)),
+        Err(fault) => tell(out, fault.answer(alloc)),
     }
 }

@@ -5,7 +5,7 @@ ghost use Rattle.std.specs.Io.KnownBytes.{Appends};
 ghost use Rattle.clap.specs.Walk.{texts};
 ghost use Rattle.whview.specs.CommandFault.{status_of, text_of};
 ghost use Rattle.whview.specs.Status.{status_number};
-ghost use Rattle.whview.specs.Output.{AskToRead, HoldsOfFile, HoldsOfReading, IsAskedOutput, IsCommandOutput, IsInputOutput, IsInputWanted, IsLineAnswer, IsMemoryTold, IsReadAnswer, ReadsInput, file_of, limit_of};
+ghost use Rattle.whview.specs.Output.{AskToRead, HoldsOfFile, HoldsOfReading, IsAskedOutput, IsCommandOutput, IsFileOutput, IsFilledAnswer, IsInputOutput, IsInputWanted, IsLineAnswer, IsMemoryTold, IsReadAnswer, ReadsInput, file_of, limit_of, reads_rows};
 ghost use Rattle.whview.specs.LiveOutput.{IsHandedAnswer};
 ghost use Rattle.whview.specs.Inner.LiveOutput.{IsAskedAnswer, IsLiveSo};
 ghost use Rattle.whview.specs.Inner.Output.{IsUnreadShown, OpensNothing, is_live};
@@ -13,6 +13,7 @@ ghost use Rattle.whview.specs.Inner.Output.{IsUnreadShown, OpensNothing, is_live
 use crate::answer::Answer;
 use crate::command_line::{Asked, CommandFault, parse};
 use crate::data_input::USUAL_LIMIT;
+use crate::files::{BundleFile, bundle_in};
 use crate::live::{ToOpen, open_and_talk};
 use crate::status::Status;
 use crate::tell::tell;
@@ -122,9 +123,18 @@ fn read_answer<E: Threads + Wait + Sync, R: Source, N: Gate + Watch + Sync>(
     answer_to(rt, alloc, asked, read, watch)
 }
 
-/// What a command answers for a file. What it holds, and when it fails, no contract can say: the answer is the one to some
-/// bytes, or to a failure.
-fn file_answer<E: Files + Threads + Wait + Sync, N: Gate + Watch + Sync>(
+/// Whether the headings of a command's bundle may name files.
+fn reads_rows(asked: &Asked<'_>) -> bool
+    ensures { result ≡ reads_rows asked.now }
+{
+    matches!(
+        asked,
+        Asked::Night { .. } | Asked::Replay { .. } | Asked::Live { .. }
+    )
+}
+
+/// What a command answers for a file of which the headings name no others.
+fn lone_answer<E: Files + Threads + Wait + Sync, N: Gate + Watch + Sync>(
     rt: &E,
     alloc: Global,
     asked: &Asked<'_>,
@@ -136,6 +146,44 @@ fn file_answer<E: Files + Threads + Wait + Sync, N: Gate + Watch + Sync>(
     match fs::open(rt, path) {
         Ok(file) => read_answer(rt, alloc, asked, &mut CountedStream::new(file), watch),
         Err(_) => Answer::fault(alloc, &LoadFault::Read),
+    }
+}
+
+/// What a command answers for a file and for those that its headings name.
+fn filled_answer<E: Files + Threads + Wait + Sync, N: Gate + Watch + Sync>(
+    rt: &E,
+    alloc: Global,
+    asked: &Asked<'_>,
+    path: &str,
+    watch: &N,
+) -> Result<Answer, AllocError>
+    ensures { IfOk result (λ a. HoldsOfFile (λ reading. IsReadAnswer (limit_of asked.now) reading (λ bundle. IsFilledAnswer (limit_of asked.now) bundle (IsCommandOutput asked.now)) a.text (status_number a.status))) }
+{
+    let from = BundleFile {
+        path,
+        limit: limit_of(asked),
+    };
+    match bundle_in(rt, alloc, &from) {
+        Ok(filled) => command_answer(rt, alloc, asked, &filled, watch),
+        Err(fault) => fault.answer(alloc),
+    }
+}
+
+/// What a command answers for a file. What files hold, and when they fail, no contract can say: the answer is the one to some bytes, or to a
+/// failure.
+fn file_answer<E: Files + Threads + Wait + Sync, N: Gate + Watch + Sync>(
+    rt: &E,
+    alloc: Global,
+    asked: &Asked<'_>,
+    path: &str,
+    watch: &N,
+) -> Result<Answer, AllocError>
+    ensures { IfOk result (λ a. HoldsOfFile (λ reading. IsReadAnswer (limit_of asked.now) reading (IsFileOutput asked.now) a.text (status_number a.status))) }
+{
+    if reads_rows(asked) {
+        filled_answer(rt, alloc, asked, path, watch)
+    } else {
+        lone_answer(rt, alloc, asked, path, watch)
     }
 }
 
@@ -161,16 +209,18 @@ fn is_live(asked: &Asked<'_>) -> bool
 /// The warehouse that a command opens: `live` where it names a file.
 fn opened_by<'a>(asked: &Asked<'a>) -> Option<ToOpen<'a>>
     ensures how { IfSome result (λ warehouse. IsLiveSo warehouse.how asked.now) }
-    ensures file { IfSome result (λ warehouse. file_of asked.now ≡ Some warehouse.path.now) }
-    ensures limit { IfSome result (λ warehouse. limit_of asked.now ≡ warehouse.limit) }
+    ensures file { IfSome result (λ warehouse. file_of asked.now ≡ Some warehouse.from.path.now) }
+    ensures limit { IfSome result (λ warehouse. limit_of asked.now ≡ warehouse.from.limit) }
     ensures none { result ≡ None → OpensNothing asked.now }
 {
     match asked {
         Asked::Live { how, .. } => match file_of(asked) {
             Some(path) => Some(ToOpen {
                 how: *how,
-                path,
-                limit: limit_of(asked),
+                from: BundleFile {
+                    path,
+                    limit: limit_of(asked),
+                },
             }),
             None => None,
         },

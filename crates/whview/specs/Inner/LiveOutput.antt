@@ -1,29 +1,33 @@
 -- What `live` comes to: what only proofs and private contracts use.
-use Rattle.std.specs.Prelude.{◌≡◌, ◌≤◌, ◌⊎◌, ℕ, List, [], length, Option, Some, Ok}
+use Rattle.std.specs.Prelude.{◌≡◌, ◌≢◌, ◌⊎◌, ℕ, List, [], Option, Some, Ok}
 use Rattle.std.specs.Io.KnownBytes.{Appends}
 use Rattle.wh_core.specs.Laws.{IsSetup}
 use Rattle.wh_opening.specs.OpeningRead.{OpeningOf, opening_of}
 use Rattle.wh_row.specs.Bag.{Bag}
-use Rattle.wh_text.specs.declared.fault.LoadFault.{LoadFault}
-use Rattle.whview.specs.CheckOutput.{IsFaultShown}
+use Rattle.wh_text.specs.declared.fault.LoadFault.TheVariants.{Memory}
+use Rattle.whview.specs.BundleFiles.{AreFilled}
+use Rattle.whview.specs.Inner.BundleFiles.{IsFileFaultShown}
 use Rattle.whview.specs.LiveOutput.{IsLiveTold, IsNotOpened, IsTalkTold, IsWithoutContents, setup_of_live, standing_in}
 use Rattle.whview.specs.NightOutput.{AreOpened}
-use Rattle.whview.specs.Output.{HoldsOfFile, HoldsOfReading, IsAskedOutput, IsMemoryTold, IsReadAnswer, file_of}
+use Rattle.whview.specs.Output.{HoldsOfFile, HoldsOfReading, IsAskedOutput, IsFilledAnswer, IsMemoryTold, IsReadAnswer, file_of}
 use Rattle.whview.specs.declared.command_line.Asked.{Asked}
 use Rattle.whview.specs.declared.command_line.Asked.TheVariants as asked
 use Rattle.whview.specs.declared.data_input.DataInput.{DataInput}
+use Rattle.whview.specs.declared.files.FileFault.{FileFault}
+use Rattle.whview.specs.declared.files.FileFault.TheVariants.{Input}
 use Rattle.whview.specs.declared.live_options.LiveOptions.{LiveOptions}
 
 -- some bytes within the limit give this opening
 pub record IsOpeningWithin (limit : ℕ) (o : OpeningOf) : Type 0 where
   pub bytes : List ℕ
-  pub within : length bytes ≤ limit
+  pub had : AreFilled limit bytes
   pub read : opening_of bytes ≡ Ok o
 
--- this is a fault of a file that is read up to the limit: what shows it is what is printed of some file that does not open
-abbrev pub IsFileFault : ℕ → LoadFault → Type 0
-IsFileFault limit fault =
-    (text : List ℕ) (status : ℕ) → IsFaultShown fault text status → HoldsOfFile (λ reading. IsReadAnswer limit reading IsNotOpened text status)
+-- why an opening could not be had from its files: what shows it is what is printed of some files that do not open
+abbrev pub IsFaultOfOpening : ℕ → FileFault → Type 0
+IsFaultOfOpening limit fault =
+    fault ≢ Input Memory → (text : List ℕ) (status : ℕ) → IsFileFaultShown fault text status
+    → HoldsOfFile (λ reading. IsReadAnswer limit reading (λ bundle. IsFilledAnswer limit bundle IsNotOpened) text status)
 
 -- it is written that memory was refused
 pub record TellsMemory (before after : Option (List ℕ)) (status : ℕ) : Type 0 where
