@@ -7,6 +7,7 @@ from trials.drawn.views import WORDS, chance
 from trials.oracle.dialogue import Dialogue
 from whview.catalogue.evaluator import NoContents
 from whview.catalogue.parts import Warehouse
+from whview.catalogue.parts import line as record
 from whview.catalogue.views import View
 
 MORE_WORDS = ["ash\n@end\nquit", "night", "@strategy"]
@@ -14,6 +15,7 @@ MOST_COMMANDS = 55
 # Events that a schedule alone has, words too few or too many, numbers that are none, and lines that are nothing at all.
 UNKNOWN = [b"begin", b"take 0", b"done 0", b"page", b"commit 1", b"giveup 0", b"close 0 0", b"read 0 b0 1 1", b"night 1", b"quit now"]
 UNKNOWN += [b"open", b"close", b"read 0 b0", b"read b0 0 1", b"read 0 b0 x", b"open x", b"open -1", b"open +1", b"open 1000001"]
+UNKNOWN += [b"tables now", b"page 0 b0", b"page 0 b0 1 b0", b"page 0 b0 1 before 1", b"page b0 0 1", b"page 0 b0 x after 1", b"page 0 b0 1 after1"]
 UNKNOWN += [b"Commit", b"nights", b"@end", b"@night", b"@strategy", b"# quit", b"commit\r", b"quit\r", b"\r", b"\xff\xfe", b"\x00", b"B\xc3\xa4ume"]
 UNKNOWN += [b"x" * 70000]
 BLANK = [b"", b" ", b"\t \t"]
@@ -23,6 +25,8 @@ STRANGE += [b"@schedule\n", b"@changes zz\n#\n", b"@changes v1\n#\n", b"@changes
 LINES = [b"oak\n", b"1\n", b"0,1,1\n", b"-1,1\n", b"1.5,1\n", b"1,1,oak\n", b"1,1,oak,1\n", b"9223372036854775808,1\n", b"\n"]
 LINES += [b"comp v1 from\n", b"comp zz from b0\n", b"inst\n", b"inst b0\n", b"inst b0 v1\n"]
 COUNTED = [b"0", b"+0", b"x", b"", b"1.0", b"+1", b"9223372036854775807", b"-9223372036854775809"]
+# What is given as the cells of a row: too few or too many, numbers that are none, other bytes, and more than one record.
+CELLS = [b"", b"oak", b"1", b"1,oak", b"oak,1", b"1,1", b"1,1,1,1,1", b",", b"x,x", b"\xff", b'"oak"', b'"oak', b"oak\r", b"oak\r1,oak", b"1\r1,2", b"1\r0,2"]
 # How large the machine is.
 HOW = {"desks": [1, 2, 2, 3, 3, 16], "keys": [*KEYS, 256], "kept": [2, 2, 3, 4]}
 # What is still to come behind the last command, and how the input ends there.
@@ -151,6 +155,8 @@ class Talk:
             return self.line(self.source.choice(["commit", "giveup"]))
         desk = self.source.choice([*range(self.how["desks"]), self.how["desks"], 1000000])
         name = self.source.choice([*(view.name for view in self.drawer.views), "zz", "0"])
+        if kind == 8:
+            return self.source.choice([self.line("tables"), self.page(desk, name, self.source.choice(LIMITS))])
         return self.line(*self.source.choice([("open", desk), ("close", desk), ("read", desk, name, self.source.choice(LIMITS))]))
 
     def at_desk(self):
@@ -165,7 +171,29 @@ class Talk:
             return self.line("read", desk, self.source.choice(["zz", machine.views[-1].name]), self.source.choice(LIMITS))
         seen = machine.views[session.view].name if session.view is not None else None
         name = seen if seen and self.source.random() < 0.6 else self.source.choice(machine.views).name
+        if chance(self.source, 0.3):
+            return self.page(desk, name, self.source.choice(LIMITS[1:-2]))
         return self.line("read", desk, name, self.source.choice(LIMITS[1:-2]))
+
+    def page(self, desk, name, limit):
+        """A page from the beginning of a view or behind a row: one of a version's, perhaps with another cell, or one with a fault."""
+        view = next((view for view in self.drawer.views if view.name == name), self.drawer.views[0])
+        if chance(self.source, 0.2):
+            return self.line("page", desk, name, limit)
+        cells = self.source.choice(CELLS) if chance(self.source, 0.15) else self.cells(view)
+        blank = self.source.choice([b" ", b" ", b" ", b"  ", b"\t"])
+        return blank.join([b"page", *(str(word).encode() for word in (desk, name, limit)), b"after "]) + cells + b"\n"
+
+    def cells(self, view):
+        """The cells of a row, as a record writes them; a text that ends the line is left out."""
+        machine, texts = self.dialogue.machine, list(self.dialogue.opening.numbers)
+        rows = sorted(self.source.choice(machine.versions[-2:])[machine.names[view.name]])
+        row = list(self.source.choice(rows)) if rows else [0] * len(view.columns)
+        if row and chance(self.source, 0.3):
+            place = self.source.randrange(len(row))
+            row[place] = max(0, row[place] + self.source.choice([-1, 1, 10**6]))
+        shown = [(texts[cell : cell + 1] or ["yew"])[0] if kind == "text" else cell for cell, (_, kind) in zip(row, view.columns)]
+        return record([cell.replace("\n", " ") if isinstance(cell, str) else cell for cell in shown]).removesuffix("\n").encode()
 
     def line(self, *event):
         """An event as a line; some have other blanks or leading zeros."""
@@ -259,12 +287,23 @@ DIALOGUE = [
     ("open 1\n", "session 1\n"),
     ("read 1 v 2\n", "#,x,n\n1,oak,1\n1,fir,1\nmore\n"),
     ("read 1 v 2\n", "#,x,n\n1,elm,1\nend\n"),
+    ("page 1 v 1 after oak,1\n", "#,x,n\n1,fir,1\nmore\n"),
+    ("page 1 v 2 after oak,2\n", "#,x,n\n1,fir,1\n1,elm,1\nend\n"),
+    ("page 1 v 1\n", "#,x,n\n1,oak,1\nmore\n"),
+    ("page 0 v 9 after elm,1\n", "#,x,n\nend\n"),
+    ("page 1 v 9 after yew,1\n", "#,x,n\nend\n"),
+    ("page 1 v 9 after oak\n", "fault csv 2\n"),
+    ("page 1 v 9 after oak,one\n", "fault number 2\n"),
+    ("page 1 w 9 after oak\n", "refused NoView\n"),
+    ("tables\n", "view,rows\na,3\nv,3\nversions 0 1\n"),
     ("begin\n", "unknown\n"),
     ("night\n@data a\nx\n@end\n", "fault part data\n"),
     ("night\n@strategy\ninst a\ninst v\n@end\n", "broken S1 at 3\n"),
     ("commit\r\n", "unknown\n"),
     ("night\n@end\n", "begun\njob 0\ndone\nready\n"),
     ("read 0 v 1\n", "expired 0 current 1 active\n"),
+    ("page 0 v 1 after oak,1\n", "expired 0 current 1 active\n"),
+    ("tables\n", "view,rows\na,3\nv,3\nversions 1\n"),
     ("giveup\n", "version 2\n"),
     ("close 0\n", "closed\n"),
     ("read 0 v 1\n", "refused NoSession\n"),

@@ -4,13 +4,15 @@ worker does, and a dictionary of texts that grows."""
 import re
 
 from trials.oracle.given import Opening
-from trials.oracle.later_nights import Fault, night_in
+from trials.oracle.later_nights import Fault, night_in, row_named
 from trials.oracle.machine import Machine
 from whview.catalogue.parts import line as record
 from whview.strategy.rules import broken
 
 MOST_NUMBER = 10**6
 ROWS = re.compile(r"\[([^]]*)\]")
+# Five words, each behind blanks, the one blank that ends them, and what stands behind it.
+BEHIND = re.compile(rb"(?:[ \t]*[^ \t]+){5}[ \t]?(.*)", re.DOTALL)
 
 
 def is_number(word):
@@ -34,7 +36,7 @@ class Dialogue:
 
     def __init__(self, text, how, kind=Machine):
         self.opening = Opening(text, **how)
-        self.machine, self.parts, self.has_ended = kind(self.opening), None, False
+        self.machine, self.parts, self.line, self.has_ended = kind(self.opening), None, b"", False
 
     def answer(self, given):
         """What is printed for these lines, of which the last has its line feed."""
@@ -45,6 +47,7 @@ class Dialogue:
         if self.has_ended:
             return ""
         if self.parts is None:
+            self.line = line
             return self.told([word.decode(errors="replace") for word in re.split(b"[ \t]", line) if word])
         if line != b"@end":
             self.parts.append(line)
@@ -62,6 +65,12 @@ class Dialogue:
             case ["quit"]:
                 self.has_ended = True
                 return ""
+            case ["tables"]:
+                return self.tables(*self.machine.tables())
+            case ["page", desk, view, limit] if is_number(desk) and is_number(limit):
+                return self.behind(int(desk), view, int(limit), None)
+            case ["page", desk, view, limit, "after", *_] if is_number(desk) and is_number(limit):
+                return self.behind(int(desk), view, int(limit), BEHIND.fullmatch(self.line)[1])
         event = event_in(words)
         return self.replied(*event) if event else "unknown\n"
 
@@ -122,6 +131,28 @@ class Dialogue:
         return None if told == "refused NotReady" else told
 
     # ---- pages
+
+    def behind(self, desk, name, limit, cells):
+        """A page behind the row of these cells, or from the beginning of the view."""
+        before = len(self.opening.numbers)
+        try:
+            row = self.row(name, cells)
+        except Fault as fault:
+            return f"fault {fault}\n"
+        finally:
+            self.forget(before)
+        told = self.machine.reply("behind", desk, name, limit, row)
+        return self.page(name, told) if told.startswith("page") else f"{told}\n"
+
+    def row(self, name, cells):
+        """The row of these cells, where there are some, and the view is one."""
+        if cells is None or name not in self.opening.names:
+            return None
+        return row_named(cells, self.opening.views[self.opening.names[name]], self.opening.number)
+
+    def tables(self, sizes, versions):
+        said = [f"{view.name},{size}" for view, size in zip(self.opening.views, sizes)]
+        return "\n".join(["view,rows", *said, " ".join(["versions", *map(str, versions)])]) + "\n"
 
     def page(self, name, told):
         """A page as a table, whose cells are texts where the machine has their numbers."""

@@ -61,6 +61,21 @@ def row_in(view, cells, record, number):
     return tuple(number_in(cell, record) if kind == "int" else number(cell) for cell, (_, kind) in zip(cells, view.columns))
 
 
+def row_named(cells, view, number):
+    """The row that cells name, read as the one record of a table behind the count 1."""
+    records = [list(each) for each in csv.reader(io.StringIO("1," + cells.decode(errors="surrogateescape"), newline=""))]
+    for record, (*own,) in enumerate(filter(None, records), 2):
+        if len(own) != len(view.columns) + 1 or any("\udc80" <= letter <= "\udcff" for cell in own for letter in cell):
+            raise Fault(f"csv {record}")
+        count = number_in(own[0], record)
+        row = row_in(view, own[1:], record, number)
+        if count < 1:
+            raise Fault(f"number {record}")
+        if record > 2:
+            raise Fault("csv 3")
+    return row
+
+
 def changes_in(lines, view, number):
     """The rows of a part with their counts that are not zero, record by record. None where there is no such part."""
     found, header = {}, ["#", *(name for name, _ in view.columns)]

@@ -216,6 +216,21 @@ class Machine(Evaluator):
             raise Refused("Limit")
         return self.rows(session, self.names[name], limit)
 
+    def behind(self, desk, name, limit, row):
+        """What a read would give if the desk stood behind this row of the view, or before its first; it stays where it is."""
+        own = self.session(desk)
+        if own:
+            self.sessions[desk] = copy(own)
+            self.sessions[desk].view, self.sessions[desk].row = self.names.get(name), row
+        try:
+            return self.read(desk, name, limit)
+        finally:
+            self.sessions[desk] = own
+
+    def tables(self):
+        """How many rows the tables of the current version have, and the versions that can be read."""
+        return [sum(table.values()) for table in self.versions[-1]], [each for each in range(len(self.versions)) if self.unexpired(each)]
+
     def expired(self, session):
         return f"expired {session.version} current {self.current} {'active' if self.night else 'idle'}"
 

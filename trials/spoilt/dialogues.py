@@ -3,6 +3,7 @@ machines those that one worker who draws every job can tell from the right one."
 
 from trials.oracle.dialogue import Dialogue
 from trials.oracle.later_nights import Fault
+from trials.oracle.machine import Machine
 from trials.spoilt.exchanged import other
 from trials.spoilt.machines import FALSIFIED
 
@@ -54,6 +55,20 @@ def own_event(own, it, words):
     return own(words)
 
 
+def moved(own, it, desk, name, limit, cells):
+    """A page that is read: the bookmark is put behind the row, and then behind the page."""
+    told = own(desk, name, limit, cells)
+    if not told.startswith("#"):
+        return told
+    session = it.machine.session(desk)
+    session.view, session.row = it.machine.names[name], it.row(name, cells)
+    return it.replied("read", desk, name, limit)
+
+
+def with_itself(own, it, desk, name, limit, row):
+    return own(desk, name, limit, row and (*row[:-1], row[-1] - 1))
+
+
 FALSIFIED_DIALOGUES = [other(Dialogue, name, instead) for name, instead in {
     "texts of a night that does not begin stay": {"forget": lambda *_: None},
     "a night is given up where it is refused": {"carried_on": given_up_by_itself},
@@ -66,6 +81,13 @@ FALSIFIED_DIALOGUES = [other(Dialogue, name, instead) for name, instead in {
     "a blank line is unknown": {"told": lambda own, _, words: own(words) if words else "unknown\n"},
     "a carriage return is a blank": {"take": lambda own, _, line: own(line.removesuffix(b"\r"))},
     "a page has numbers for texts": {"shown": lambda _, __, ___, cells: cells},
+    "a page behind a row moves the bookmark": {"behind": moved},
+    "a page behind a row begins at the view's first": {"row": lambda *_: None},
+    "texts of a row that is named stay": {"row": lambda own, it, *given: own(*given) and own(*given), "forget": lambda *_: None},
+    "tables are those of the version before": {"tables": lambda own, it, sizes, versions: own([sum(table.values()) for table in it.machine.versions[-2:][0]], versions)},
+    "tables tell different rows": {"tables": lambda own, it, sizes, versions: own([len(table) for table in it.machine.versions[-1]], versions)},
+    "tables tell all versions": {"tables": lambda own, it, sizes, versions: own(sizes, range(len(it.machine.versions)))},
     "a page ends where more follows": {"page": lambda own, _, *given: own(*given).removesuffix("more\n") + "end\n"},
 }.items()]
-FALSIFIED_MACHINES = [kind for kind in FALSIFIED if kind.__name__ not in UNTOLD]
+FALSIFIED_MACHINES = [other(Machine, "a page begins at the row that is named", {"behind": with_itself})]
+FALSIFIED_MACHINES += [kind for kind in FALSIFIED if kind.__name__ not in UNTOLD]

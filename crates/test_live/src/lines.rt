@@ -8,7 +8,7 @@ use wh_text_catalogue::read_shape;
 use wh_text_lines::ScheduledEvent;
 
 /// Lines over the views `a` and `v`, and what they say: a letter for each command, with its numbers. `n` is a night, with its parts.
-static TEXTS: [(&str, &str); 9] = [
+static TEXTS: [(&str, &str); 12] = [
     ("", ""),
     (" \t\n\n", ""),
     ("commit\ngiveup\nquit", "c g q "),
@@ -27,6 +27,18 @@ static TEXTS: [(&str, &str); 9] = [
         "n(night/commit// @end/@end /@@end/) q ",
     ),
     ("open 0\nnight\n@changes a\ncommit\n", "o0 "),
+    (
+        "page 0 v 10\n page\t1 w 2 \ntables\ntables now\nchanges\nchanges v\npage 0 v\npage 0 v 10 1\npage 0 v 10 before 1\npage x v 10 after 1",
+        "p0v10 p1?2 t ? d ? ? ? ? ? ",
+    ),
+    (
+        "page 0 v 10 after 1,\"a, b\" \npage 0  v\t10 after\t 1\npage 1 w 2 after one two",
+        "p0v10(1,\"a, b\" ) p0v10( 1) p1?2(one two) ",
+    ),
+    (
+        "page 0 v 10 after\npage 0 v 10 after \npage 0 a 1 after after 2",
+        "p0v10() p0v10() p0a1(after 2) ",
+    ),
 ];
 
 /// The parts of a night, with `/` where a line ends.
@@ -64,6 +76,21 @@ fn event_text(alloc: Global, event: &ScheduledEvent) -> Result<String, AllocErro
     }
 }
 
+/// A page that is asked for: the desk, the view's letter, and the limit.
+fn page_text(
+    alloc: Global,
+    desk: usize,
+    view: Option<usize>,
+    limit: usize,
+) -> Result<String, AllocError> {
+    let view = match view {
+        Some(0) => 'a',
+        Some(_) => 'v',
+        None => '?',
+    };
+    format!(in alloc; "p{desk}{view}{limit}")
+}
+
 /// A command in short.
 fn command_text(alloc: Global, command: &Command) -> Result<String, AllocError> {
     match command {
@@ -72,6 +99,22 @@ fn command_text(alloc: Global, command: &Command) -> Result<String, AllocError> 
             format!(in alloc; "n({}) ", parts.as_str())
         }
         Command::Event(event) => event_text(alloc, event),
+        Command::Page {
+            desk,
+            view,
+            limit,
+            after,
+        } => {
+            let mut text = page_text(alloc, *desk, *view, *limit)?;
+            if let Some(cells) = after {
+                let cells = parts_text(alloc, cells)?;
+                text.push_str(format!(in alloc; "({})", cells.as_str())?.as_str())?;
+            }
+            text.push(' ')?;
+            Ok(text)
+        }
+        Command::Tables => String::from_str(alloc, "t "),
+        Command::Changes => String::from_str(alloc, "d "),
         Command::Quit => String::from_str(alloc, "q "),
         Command::Unknown => String::from_str(alloc, "? "),
     }

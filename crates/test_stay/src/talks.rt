@@ -41,10 +41,21 @@ night
 1,two
 @end
 read 0 v 10
+tables
 commit
 read 0 v 10
+tables
+page 0 v 10
 close 0
+page 0 v 10 after one
 open 0
+page 1 v 1 after one
+page 0 w 1 after one,two
+page 0 v 0 after one
+page 0 v 1 after one,two
+page 0 v 10 after one
+page 0 a 10 after two
+page 0 a 10 after three
 read 0 v 1
 who
 
@@ -82,12 +93,35 @@ ready
 #,x
 1,one
 end
+view,rows
+a,1
+v,1
+versions 0
 version 1
 #,x
 1,one
 end
+view,rows
+a,1
+v,1
+versions 0 1
+#,x
+1,one
+end
 closed
+refused NoSession
 session 1
+refused NoSession
+refused NoView
+refused Limit
+fault csv 2
+#,x
+1,two
+end
+#,x
+end
+#,x
+end
 #,x
 1,two
 end
@@ -131,6 +165,137 @@ fn lines_are_answered_however_they_are_cut(rt: HostRuntime) -> Result<(), Fail> 
         assert!(&rt; end == TalkEnd::Done);
         assert_eq!(&rt; written.as_slice(), TALK_ANSWERED.as_bytes());
     }
+    Ok(())
+}
+
+/// What is asked of three rows, and below it what is answered.
+static PAGES_ASKED: &str = "night
+@changes a
+#,x
+2,\"two, and\"
+1,three
+@end
+commit
+open 0
+tables
+read 0 a 1
+page 0 a 1
+page 0 a 1 after one
+page 0 a 2 after one
+page 0 a 2 after \"two, and\"
+page 0 a 2 after four
+read 0 a 1
+read 0 a 1
+";
+
+static PAGES_ANSWERED: &str = "begun
+job 0
+done
+paged 2
+paged 2
+ready
+version 1
+session 1
+view,rows
+a,4
+v,4
+versions 0 1
+#,x
+1,one
+more
+#,x
+1,one
+more
+#,x
+2,\"two, and\"
+more
+#,x
+2,\"two, and\"
+1,three
+end
+#,x
+1,three
+end
+#,x
+end
+#,x
+2,\"two, and\"
+more
+#,x
+1,three
+end
+";
+
+/// A page behind a row begins with the next one, and moves no bookmark.
+#[test]
+fn a_page_behind_a_row_leaves_the_bookmark(rt: HostRuntime) -> Result<(), Fail> {
+    let reads = Cut {
+        text: PAGES_ASKED.as_bytes(),
+        given: 0,
+        most: 1000,
+        fails_at: None,
+    };
+    let (end, written) = talked(&rt, rt.alloc(), reads)?;
+    assert!(&rt; end == TalkEnd::Done);
+    assert_eq!(&rt; written.as_slice(), PAGES_ANSWERED.as_bytes());
+    Ok(())
+}
+
+/// What is asked about what a night changes, and below it what is answered.
+static CHANGES_ASKED: &str = "changes
+night
+@changes a
+#,x
+-1,one
+2,\"two, and\"
+@end
+changes
+commit
+changes
+night
+@end
+changes
+";
+
+static CHANGES_ANSWERED: &str = "changes v
+#,x
+end
+begun
+job 0
+done
+paged 2
+paged 2
+ready
+changes v
+#,x
+-1,one
+2,\"two, and\"
+end
+version 1
+changes v
+#,x
+end
+begun
+job 0
+done
+ready
+changes v
+#,x
+end
+";
+
+/// What the open night changes is told from its last page on until it ends.
+#[test]
+fn what_a_night_changes_is_told_before_its_commit(rt: HostRuntime) -> Result<(), Fail> {
+    let reads = Cut {
+        text: CHANGES_ASKED.as_bytes(),
+        given: 0,
+        most: 1000,
+        fails_at: None,
+    };
+    let (end, written) = talked(&rt, rt.alloc(), reads)?;
+    assert!(&rt; end == TalkEnd::Done);
+    assert_eq!(&rt; written.as_slice(), CHANGES_ANSWERED.as_bytes());
     Ok(())
 }
 

@@ -1,5 +1,5 @@
 -- Where a machine stands once more nights are given: where it stood.
-use Rattle.std.proofs.Common.{◌≡◌, sym, ap, subst, ◌∙◌, ℕ, zero, suc, List, [], ◌∷◌, ◌++◌, drop, Vec, Option, Some, None}
+use Rattle.std.proofs.Common.{◌≡◌, sym, ap, subst, ◌∙◌, ℕ, zero, suc, List, [], ◌∷◌, ◌++◌, drop, take, Vec, Option, Some, None}
 use Rattle.std.specs.Prelude.{slice_get}
 use Rattle.std.proofs.lemmas.Option.{same_Some}
 use Rattle.std.specs.declared.alloc.Global.{Global}
@@ -15,7 +15,7 @@ use Rattle.wh_core.specs.Laws.{IsGivenNight, IsSetup}
 use Rattle.wh_core.specs.Later.{GoesOn}
 use Rattle.wh_core.specs.Log.{Log, nights_begun}
 use Rattle.wh_core.specs.Nights.{GivenNight, Setup, remaining_in, with_nights}
-use Rattle.wh_core.specs.Standing.{AreJudged, AreLeft, IsNightFor, KeepsTables, Stands, StandsWith, given_of}
+use Rattle.wh_core.specs.Standing.{AreJudged, AreLeft, HasPut, IsNightFor, KeepsTables, Stands, StandsWith, given_of}
 use Rattle.wh_core.proofs.Later.{all_of, goes_on, still_setup}
 use Rattle.wh_core.proofs.Waiting.{begun_given, waiting_longer}
 
@@ -40,6 +40,7 @@ module _ (s : Setup) (later : List GivenNight) (log : Log) where
         workers = h.workers;
         holders = h.holders;
         night = λ o. subst (λ n. AreLeft n (remaining_in n log) (drop m.place m.course.parts.items) m.course.stop m.drawn m.done) (sym (g.same_night o)) (h.night o);
+        put = λ o. subst (λ list. HasPut list (take m.place m.course.parts.items)) (sym g.same_list) (h.put o);
       }
 
 -- of one item

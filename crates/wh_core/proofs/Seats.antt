@@ -43,7 +43,7 @@ module _ (s : Setup) (log : Log) (m : Machine) (h : Stands s log m) (d : ℕ) (l
       let got : slice_get m.seats.items d ≡ Some o = slice_get_read m.seats.items (length m.seats.items) d o refl l e in
       same_Some (session log d) (option_map session_of o) (sym (h.sessions d inside) ∙ slice_get-map (option_map session_of) m.seats.items d ∙ ap (option_map (option_map session_of)) got)
 
-  desk : nat_le s.desks d ≡ false
+  pub desk : nat_le s.desks d ≡ false
   desk = le_false s.desks d (let f = h.desks in omega (arith, f, l))
 
   pub opens : (r : Reply) → IsRuled (unless (is_some (session log d)) cause.SessionOpen (Says (reply.Session (number (versions s log))))) r → IsReply s log (event.Open d) r

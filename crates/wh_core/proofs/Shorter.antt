@@ -14,7 +14,7 @@ use Rattle.wh_core.specs.declared.warehouse.Core.{Core}
 use Rattle.wh_core.specs.Log.{Log, logged, nights_begun}
 use Rattle.wh_core.specs.Nights.{GivenNight, Setup, remaining_in, with_nights}
 use Rattle.wh_core.specs.Replies.{IsLegalLog}
-use Rattle.wh_core.specs.Standing.{AreLeft, KeepsTables, Stands, StandsWith, given_of}
+use Rattle.wh_core.specs.Standing.{AreLeft, HasPut, KeepsTables, Stands, StandsWith, given_of}
 use Rattle.wh_core.proofs.Later.{goes_on}
 use Rattle.wh_core.proofs.Waiting.{begun_given, waiting_shorter}
 
@@ -40,6 +40,7 @@ module _ (s : Setup) (later : List GivenNight) (log : Log) (legal : IsLegalLog s
         workers = h.workers;
         holders = h.holders;
         night = λ o. subst (λ n. AreLeft n (remaining_in n log) (drop m.place m.course.parts.items) m.course.stop m.drawn m.done) (g.same_night o) (h.night o);
+        put = λ o. subst (λ list. HasPut list (take m.place m.course.parts.items)) g.same_list (h.put o);
       }
 
 -- what is among the first is among all

@@ -60,6 +60,7 @@ module _ (s : Setup) (log : Log) where
     workers = h.workers;
     holders = h.holders;
     night = h.night;
+    put = h.put;
   }
 
   -- none is open, and these are the newest contents

@@ -1,9 +1,12 @@
 pub mod Log
 pub mod Nights
 pub mod Replies
+pub mod Tables
 pub mod Laws
+pub mod Pages
 pub mod Later
 pub mod Beginning
+pub mod Changes
 pub mod Headline
 pub mod Standing
 pub mod Inner

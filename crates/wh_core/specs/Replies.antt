@@ -1,6 +1,7 @@
 -- The reply to an event, looked up in what was done before and in the list published so far; and legal runs.
-use Rattle.std.specs.Prelude.{◌≡◌, ◌≢◌, ◌⊎◌, ℕ, ◌+◌, ◌^◌, ◌==◌, List, [], ◌∷◌, length, Option, Some, None, is_some, is_none, Bool, true, false, not, nat_le, if◌then◌else◌}
+use Rattle.std.specs.Prelude.{◌≡◌, ◌≢◌, ◌⊎◌, ℕ, ◌+◌, ◌^◌, ◌==◌, List, [], ◌∷◌, length, Option, Some, None, is_some, is_none, option_map, Bool, true, false, not, nat_le, if◌then◌else◌}
 use Rattle.wh_dag.specs.Catalog.{CatalogOf}
+use Rattle.wh_row.specs.Row.{Row}
 use Rattle.wh_maint.specs.declared.fault.MaintFault.{MaintFault}
 use Rattle.wh_maint.specs.declared.fault.MaintFault.TheVariants as fault
 use Rattle.wh_carry.specs.Refused.{IsBaseFault}
@@ -168,3 +169,19 @@ IsLegalRun s events replies = IsRunFrom s [] events replies
 pub data IsLegalLog (s : Setup) : Log → Type 0 where
   nothing : IsLegalLog s []
   more : (log : Log) (event : Event) (r : Reply) → IsLegalLog s log → IsReply s log event r → IsLegalLog s (logged log event r)
+
+-- ---- a page without a bookmark
+
+-- the session with its bookmark at this row of the view, or with none
+abbrev pub placed_at : ℕ → Option Row → SessionOf → SessionOf
+placed_at view after s = record { version = s.version; bookmark = option_map (λ row. record { view = view; row = row }) after }
+
+-- How a page of a view behind this row, or from its beginning, is answered after what was done: as a read would be, if the desk's bookmark
+-- stood there. It is no event: nothing is done, and the bookmark is not moved
+abbrev pub page_of_view_ruling : Setup → Log → ℕ → ℕ → ℕ → Option Row → Ruling
+page_of_view_ruling s log d view limit after =
+    unless (nat_le s.desks d) cause.NoDesk
+    (read_ruling s.versions (versions s log) view limit (option_map (placed_at view after) (session log d)))
+
+abbrev pub IsPageReply : Setup → Log → ℕ → ℕ → ℕ → Option Row → Reply → Type 0
+IsPageReply s log d view limit after r = IsRuled (page_of_view_ruling s log d view limit after) r

@@ -1,12 +1,16 @@
 -- Where a machine stands after what was done.
-use Rattle.std.specs.Prelude.{◌≡◌, ℕ, ◌<◌, ◌≤◌, Vec, List, [], ◌∷◌, length, map, drop, slice_get, Option, Some, None, option_map, true, false}
+use Rattle.std.specs.Prelude.{◌≡◌, ℕ, ◌<◌, ◌≤◌, Vec, List, [], ◌∷◌, ◌++◌, length, map, drop, take, slice_get, Option, Some, None, option_map, true, false}
 use Rattle.wh_dag.specs.Catalog.{CatalogOf}
 use Rattle.wh_strategy.specs.Rules.{Judged}
 use Rattle.wh_row.specs.Bag.{Bag}
+use Rattle.wh_row.specs.Stored.{plain}
 use Rattle.wh_maint.specs.declared.fault.MaintFault.{MaintFault}
+use Rattle.wh_store.specs.declared.operation.Op.TheVariants as op
+use Rattle.wh_store.specs.Operations.{Operation, Opens, Writes}
 use Rattle.wh_store.specs.Windows.{Shows}
 use Rattle.wh_store.specs.Readers.{Bookmark}
 use Rattle.wh_carry.specs.declared.course.Part.{Part}
+use Rattle.wh_carry.specs.declared.course.Part.TheVariants as part
 use Rattle.wh_carry.specs.Night.{Night}
 use Rattle.wh_carry.specs.Legs.{Leg, Wave, Page, Remaining}
 use Rattle.wh_carry.specs.Course.{AreParts, IsEnd}
@@ -53,6 +57,18 @@ abbrev pub KeepsTables : Setup → Log → Option (Vec Bag Global) → Type 0
 KeepsTables s log None = Unit {0}
 KeepsTables s log (Some tables) = (is_open log ≡ false → tables.items ≡ (versions s log).newest) × (is_open log ≡ true → IsEnd (night s log) (Some tables))
 
+-- the operations by which these parts put their pages
+abbrev pub put_by : List Part → List Operation
+put_by [] = []
+put_by (part.Wave outcomes ∷ parts) = put_by parts
+put_by (part.Page (op.Put view rows) ∷ parts) = Writes view (plain rows.items) ∷ put_by parts
+put_by (part.Page _ ∷ parts) = put_by parts
+
+-- what is published ends by a night's Begin and the pages of these parts
+pub record HasPut (published : List Operation) (parts : List Part) : Type 0 where
+  pub before : List Operation
+  pub list : published ≡ before ++ Opens ∷ put_by parts
+
 -- what a machine keeps is what a legal run leaves
 pub record Stands (s : Setup) (log : Log) (m : Machine) : Type 0 where
   pub legal : IsLegalLog s log
@@ -64,6 +80,7 @@ pub record Stands (s : Setup) (log : Log) (m : Machine) : Type 0 where
   pub workers : length m.holders.items ≡ s.workers
   pub holders : (w : ℕ) → w < s.workers → slice_get m.holders.items w ≡ Some (holding log w)
   pub night : is_open log ≡ true → AreLeft (night s log) (remaining s log) (drop m.place m.course.parts.items) m.course.stop m.drawn m.done
+  pub put : is_open log ≡ true → HasPut (published s log) (take m.place m.course.parts.items)
 
 -- a night as it is given in code
 abbrev pub given_of : Vec Bag Global × Judged → GivenNight

@@ -3,6 +3,7 @@
 ghost use Rattle.wh_core.specs.Headline.{RunsComeTrue};
 ghost use Rattle.wh_core.specs.Laws.{CommitsMakeContents, JobsAreDrawnOnce, PublishedAreNights, PublishedAreWellFormed, RefusalsAreToldInTurn, RepliesAreOne, RunsLeaveLegalLogs, SessionsReadTables, VersionsAreContents, WorkersDoTheirJobs};
 ghost use Rattle.wh_core.specs.Later.{NightsComeLater, RunsGoOn};
+ghost use Rattle.wh_core.specs.Pages.{PagesShowRows};
 
 use wh_carry::passed_expressions_have_values;
 use wh_store::{pages_join_law, versions_stay_law};
@@ -95,5 +96,13 @@ pub fn runs_come_true()
     ensures { RunsComeTrue }
 {
     pages_join_law();
+    versions_stay_law();
+}
+
+/// A law of the definitions: a page without a bookmark is the first rows of the view behind the row that is named, in the version of the
+/// desk's session. The contents of that version are those of a base.
+pub fn pages_show_rows()
+    ensures { PagesShowRows }
+{
     versions_stay_law();
 }

@@ -4,19 +4,22 @@
 //! of workers, readers and the writer follow one another, stands in the definitions. What follows of it stands in the laws.
 #![tactic(auto)]
 
+mod change;
 mod event;
 mod laws;
 mod machine;
 mod options;
+mod page;
 mod reply;
 mod session;
+mod sizes;
 mod warehouse;
 
 pub use event::Event;
 pub use laws::{
-    commits_make_contents, jobs_are_drawn_once, nights_come_later, published_are_nights,
-    published_are_well_formed, refusals_are_told_in_turn, replies_are_one, runs_come_true,
-    runs_go_on, runs_leave_legal_logs, sessions_read_tables, versions_are_contents,
+    commits_make_contents, jobs_are_drawn_once, nights_come_later, pages_show_rows,
+    published_are_nights, published_are_well_formed, refusals_are_told_in_turn, replies_are_one,
+    runs_come_true, runs_go_on, runs_leave_legal_logs, sessions_read_tables, versions_are_contents,
     workers_do_their_jobs,
 };
 pub use options::MachineOptions;

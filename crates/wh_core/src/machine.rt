@@ -107,7 +107,7 @@ fn page_at(course: &Course, place: usize) -> Option<&Op>
 }
 
 /// Whether a page may have so many rows.
-fn is_limit(limit: usize) -> bool
+pub(crate) fn is_limit(limit: usize) -> bool
     ensures { result ≡ not ((limit == 0) || nat_lt 256 limit) }
 {
     limit >= 1 && limit <= MAX_KEYS

@@ -1,15 +1,17 @@
 //! Answers events, as the machine over a catalogue's views.
 
-ghost use Rattle.std.specs.Prelude.{◌≡◌, ◌≢◌, ◌≤◌, length, slice_get, Some, [], ◌∷◌, List, IfOk, OnErr, OnOk};
+ghost use Rattle.std.specs.Prelude.{◌≡◌, ◌≢◌, ◌≤◌, length, slice_get, Some, [], ◌∷◌, List, IfOk, OnErr, OnOk, option_map};
 ghost use Rattle.wh_dag.specs.Catalog.{IsCatalog};
 ghost use Rattle.wh_maint.specs.Asked.{AreBags};
+ghost use Rattle.wh_core.specs.Changes.{change_written};
 ghost use Rattle.wh_core.specs.Headline.{ComesTrue};
 ghost use Rattle.wh_core.specs.Laws.{IsSetup, log_after};
 ghost use Rattle.wh_core.specs.Beginning.{IsBeginOf};
 ghost use Rattle.wh_core.specs.Log.{Log, Began, logged};
-ghost use Rattle.wh_core.specs.Nights.{GivenNight, Setup, setup_of, with_nights};
-ghost use Rattle.wh_core.specs.Replies.{IsLegalLog, IsLegalRun, IsReply};
+ghost use Rattle.wh_core.specs.Nights.{GivenNight, Setup, setup_of, versions, with_nights};
+ghost use Rattle.wh_core.specs.Replies.{IsLegalLog, IsLegalRun, IsPageReply, IsReply};
 ghost use Rattle.wh_core.specs.Standing.{AreJudged, IsFresh, IsNightFor, IsStanding, StandsWith, catalog_of, given_of, nights_of};
+ghost use Rattle.wh_core.specs.Tables.{readable_now, sizes_now};
 
 use crate::event::Event;
 use crate::laws::{runs_come_true, versions_are_contents};
@@ -128,6 +130,31 @@ impl<F: RowTest + Drop, G: RowValue + Drop> Core<F, G> {
         self.answer(event)
     }
 
+    /// Answers a page of a view in the session of a desk: its first rows behind this one, which need not be there, or from its beginning.
+    /// It is refused as a read is, and moves no bookmark.
+    pub fn page(&self, desk: usize, view: usize, limit: usize, after: Option<&[i64]>) -> Reply
+        ensures { (s : Setup) (log : Log) → StandsWith s log self.now → IsPageReply s log desk view limit (option_map (λ row. row.now) after.entry) result }
+    {
+        self.machine.page(desk, view, limit, after)
+    }
+
+    /// Returns how many rows the table of each view has in the current version, each row as often as it counts. No row is walked through
+    /// where no night is open and the last one was not given up.
+    /// Fails for want of memory.
+    pub fn sizes(&self) -> Result<Vec<u128>, AllocError>
+        ensures { IfOk result (λ sizes. (s : Setup) (log : Log) → StandsWith s log self.now → sizes.items ≡ sizes_now s log) }
+    {
+        self.machine.sizes()
+    }
+
+    /// Returns the versions that sessions can be read of, the current one last.
+    /// Fails for want of memory.
+    pub fn readable(&self) -> Result<Vec<u64>, AllocError>
+        ensures { IfOk result (λ versions. (s : Setup) (log : Log) → StandsWith s log self.now → versions.items ≡ readable_now s log) }
+    {
+        self.machine.readable()
+    }
+
     fn answer(&mut self, event: Event) -> Reply
         requires { IsStanding self.old }
         ensures reply { (s : Setup) (log : Log) → IsSetup s → StandsWith s log self.old → StandsWith s (logged log event result) self.new × IsReply s log event result }
@@ -185,6 +212,18 @@ impl<F: RowTest + Drop, G: RowValue + Drop> Core<F, G> {
             }
             refusal => refusal,
         }
+    }
+
+    /// Returns the change that the open night has written so far of a view: each row counts what it counts then, less what it counts in the
+    /// current version. Once all is written, a commit makes the view's next table by it. No row changes of a view that is not there, or
+    /// where no night is open.
+    /// Fails for want of memory.
+    /// Takes O(p + m w log n) time for the p pages that the night has put, with m rows of the view, of w cells, in a table of n.
+    pub fn change(&self, view: usize) -> Result<Bag, AllocError>
+        requires { IsStanding self.now }
+        ensures { IfOk result (λ change. (s : Setup) (log : Log) → IsSetup s → StandsWith s log self.now → change ≡ change_written (versions s log) view) }
+    {
+        self.machine.change(view)
     }
 
     /// Answers events, one after another, from a machine that has done nothing yet.

@@ -9,7 +9,7 @@ use Rattle.wh_core.specs.declared.event.Event.TheVariants as event
 use Rattle.wh_core.specs.declared.reply.Cause.{Cause}
 use Rattle.wh_core.specs.declared.reply.Reply.{Reply}
 use Rattle.wh_core.specs.declared.reply.Reply.TheVariants as reply
-use Rattle.wh_dialogue.specs.Dialogue.{Dialogue, DialoguesAreLegalRuns, GoesOn, IsAnswered, IsCarried, Stops, a_night, a_stranger, an_event, answers, at_first, is_ready, is_refused, no_night, one_more, opens, the_end}
+use Rattle.wh_dialogue.specs.Dialogue.{Dialogue, DialoguesAreLegalRuns, GoesOn, IsAnswered, IsCarried, Stops, a_night, a_page_asked, a_stranger, all_changes, all_tables, an_event, answers, at_first, changes_want_memory, is_ready, is_refused, no_night, one_more, opens, tables_want_memory, the_end}
 use Rattle.wh_live.specs.Commands.{Command}
 use Rattle.wh_live.specs.Requests.{is_asked}
 use Rattle.wh_replies.specs.Events.{event_of}
@@ -85,6 +85,11 @@ module _ (opening : Setup) where
       → Lives opening s log events replies → IsAnswered s log w command asked replied said setup after stands → Lives opening setup after (events ++ asked) (replies ++ replied)
   was_answered s _ log _ w _ _ events _ replies _ _ h (an_event e r is asked same replies_so) =
       lives.answers s log events replies asked r h replies_so (subst (λ a. finds_none a r ≡ false) (sym same) (asked_found _ e r is))
+  was_answered s _ log _ w _ _ events _ replies _ _ h (a_page_asked desk view limit after said is) = nothing_more s log events replies h
+  was_answered s _ log _ w _ _ events _ replies _ _ h all_tables = nothing_more s log events replies h
+  was_answered s _ log _ w _ _ events _ replies _ _ h all_changes = nothing_more s log events replies h
+  was_answered s _ log _ w _ _ events _ replies _ _ h tables_want_memory = nothing_more s log events replies h
+  was_answered s _ log _ w _ _ events _ replies _ _ h changes_want_memory = nothing_more s log events replies h
   was_answered s _ log _ w _ _ events _ replies _ _ h (a_stranger strange is) = nothing_more s log events replies h
   was_answered s _ log _ w _ _ events _ replies _ _ h the_end = nothing_more s log events replies h
   was_answered s _ log _ w _ _ events _ replies _ _ h (no_night parts said is other) = nothing_more s log events replies h

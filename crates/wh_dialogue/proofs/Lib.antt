@@ -1,3 +1,5 @@
+pub mod ChangeTexts
 pub mod Legal
 pub mod Steps
 pub mod Turns
+pub mod SizeLines

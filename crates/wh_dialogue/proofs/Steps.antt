@@ -1,13 +1,15 @@
 -- The steps of a dialogue, from what calls answer.
-use Rattle.std.proofs.Common.{◌≡◌, ◌≢◌, refl, sym, ap, subst, ◌∙◌, ℕ, true, false, List, [], ◌∷◌, ◌++◌, append_assoc, append-nil, arith, ◌<◌, ◌≤◌, ◌+◌, length, length-append, vec_len, Vec, Global, is_ok, if◌then◌else◌, IfOk, OnOk, Result, Ok, Err}
+use Rattle.std.proofs.Common.{◌≡◌, ◌≢◌, refl, sym, ap, subst, ◌∙◌, ℕ, true, false, List, [], ◌∷◌, ◌++◌, append_assoc, append-nil, arith, ◌<◌, ◌≤◌, ◌+◌, length, length-append, vec_len, Vec, Global, is_ok, if◌then◌else◌, IfOk, OnOk, Result, Ok, Err, ◌⊎◌, inl, inr}
 use Rattle.std.specs.Prelude.{Option, Some, None, codes}
 use Rattle.std.specs.List.{flat_map}
 use Rattle.std.proofs.lemmas.Grind.{flat_map-append}
+use Rattle.wh_core.specs.Changes.{change_written}
 use Rattle.wh_core.specs.Laws.{IsSetup}
 use Rattle.wh_core.specs.Log.{Log, logged}
-use Rattle.wh_core.specs.Nights.{Setup}
+use Rattle.wh_core.specs.Nights.{Setup, versions}
 use Rattle.wh_core.specs.Replies.{IsReply}
 use Rattle.wh_core.specs.Standing.{StandsWith}
+use Rattle.wh_core.specs.Tables.{readable_now, sizes_now}
 use Rattle.wh_core.specs.declared.event.Event.{Event}
 use Rattle.wh_core.specs.declared.reply.Cause.{Cause}
 use Rattle.wh_core.specs.declared.reply.Cause.TheVariants as cause
@@ -16,20 +18,22 @@ use Rattle.wh_core.specs.declared.reply.Reply.TheVariants as reply
 use Rattle.wh_core.specs.declared.warehouse.Core.{Core}
 use Rattle.wh_dialogue.proofs.Legal.{refused_logged}
 use Rattle.wh_core.specs.declared.event.Event.TheVariants as event
-use Rattle.wh_dialogue.specs.Dialogue.{GoesOn, IsAnswered, IsStrange, a_night, a_stranger, an_event, at_first, is_ready, is_refusal, is_refused, no_night, one_more, the_end}
+use Rattle.wh_dialogue.specs.Dialogue.{GoesOn, IsAnswered, IsStrange, a_night, a_page_asked, a_stranger, all_changes, all_tables, an_event, at_first, changes_want_memory, is_ready, is_refusal, is_refused, no_night, one_more, tables_want_memory, the_end}
 use Rattle.wh_dialogue.specs.Inner.Steps.{CarriedIn, IsAnsweredIn}
-use Rattle.wh_dialogue.specs.Said.{said_line, said_of, told_text}
+use Rattle.wh_dialogue.specs.Said.{changes_text, page_told_text, said_line, said_of, tables_text, told_text}
 use Rattle.wh_live.specs.Commands.{Command}
 use Rattle.wh_live.specs.Commands as command
 use Rattle.wh_live.specs.Requests.{is_asked}
 use Rattle.wh_replies.specs.Events.{event_of}
 use Rattle.wh_replies.specs.ReplyText.{line, reply_text}
+use Rattle.wh_stay.specs.Pages.{IsPageTold}
 use Rattle.wh_stay.specs.Standing.{StandingOf, core_of, standing_of}
 use Rattle.wh_stay.specs.Told.{CarriesOn, IsCarriedOn, IsNightTold, IsReady, IsTold, breaks_a_rule, has_a_fault, has_begun, wants_memory}
 use Rattle.wh_stay.specs.Told as told_how
 use Rattle.wh_stay.specs.declared.standing.Live.{Live}
 use Rattle.wh_stay.specs.declared.told.NightTold.{NightTold}
 use Rattle.wh_stay.specs.declared.told.NightTold.TheVariants as told
+use Rattle.wh_text.specs.declared.fault.LoadFault.{LoadFault}
 use Rattle.wh_text_lines.specs.declared.schedule.event.ScheduledEvent.{ScheduledEvent}
 
 -- ---- a night that is carried on
@@ -215,6 +219,31 @@ module _ {F G : Type 0} (s : Setup) (log : Log) (w : StandingOf) where
   end_in asked text live is h same quits nothing =
       unchanged asked text live is h same
       (subst (λ t. IsAnswered s log w asked [] [] t s log w) (sym nothing) (subst (λ a. IsAnswered s log w a [] [] [] s log w) (sym quits) the_end))
+
+  pub page_in : (desk : ℕ) (view : Option ℕ) (limit : ℕ) (after : Option (List ℕ)) (said : Result Reply LoadFault) (text : List ℕ) (live : Live F G) → IsSetup s
+      → StandsWith s log (core_of live) → standing_of live ≡ w → IsPageTold s log w desk view limit after said → text ≡ page_told_text w view said
+      → IsAnsweredIn s log w (command.Page desk view limit after) text live
+  page_in desk view limit after said text live is h same so printed =
+      unchanged (command.Page desk view limit after) text live is h same
+      (subst (λ t. IsAnswered s log w (command.Page desk view limit after) [] [] t s log w) (sym printed) (a_page_asked desk view limit after said so))
+
+  pub tables_in : (asked : Command) (text : List ℕ) (live : Live F G) → IsSetup s → StandsWith s log (core_of live) → standing_of live ≡ w → asked ≡ command.Tables
+      → (text ≡ tables_text w.names (sizes_now s log) (readable_now s log)) ⊎ (text ≡ line (codes "memory")) → IsAnsweredIn s log w asked text live
+  tables_in asked text live is h same wanted said =
+      unchanged asked text live is h same (subst (λ a. IsAnswered s log w a [] [] text s log w) (sym wanted) (by_text said))
+    where
+      by_text : (text ≡ tables_text w.names (sizes_now s log) (readable_now s log)) ⊎ (text ≡ line (codes "memory")) → IsAnswered s log w command.Tables [] [] text s log w
+      by_text (inl e) = subst (λ t. IsAnswered s log w command.Tables [] [] t s log w) (sym e) all_tables
+      by_text (inr e) = subst (λ t. IsAnswered s log w command.Tables [] [] t s log w) (sym e) tables_want_memory
+
+  pub changes_in : (asked : Command) (text : List ℕ) (live : Live F G) → IsSetup s → StandsWith s log (core_of live) → standing_of live ≡ w → asked ≡ command.Changes
+      → (text ≡ changes_text w (change_written (versions s log))) ⊎ (text ≡ line (codes "memory")) → IsAnsweredIn s log w asked text live
+  changes_in asked text live is h same wanted said =
+      unchanged asked text live is h same (subst (λ a. IsAnswered s log w a [] [] text s log w) (sym wanted) (by_text said))
+    where
+      by_text : (text ≡ changes_text w (change_written (versions s log))) ⊎ (text ≡ line (codes "memory")) → IsAnswered s log w command.Changes [] [] text s log w
+      by_text (inl e) = subst (λ t. IsAnswered s log w command.Changes [] [] t s log w) (sym e) all_changes
+      by_text (inr e) = subst (λ t. IsAnswered s log w command.Changes [] [] t s log w) (sym e) changes_want_memory
 
   pub event_in : (e : ScheduledEvent) (asked : Event) (r : Reply) (text : List ℕ) (live : Live F G) → IsSetup s → is_asked e ≡ true → asked ≡ event_of (length w.names) e
       → StandsWith s (logged log asked r) (core_of live) × IsReply s log asked r → standing_of live ≡ w → text ≡ said_of w e r → IsAnsweredIn s log w (command.Event e) text live

@@ -10,7 +10,7 @@ use Rattle.wh_core.specs.Standing.{StandsWith}
 use Rattle.wh_core.specs.declared.event.Event.{Event}
 use Rattle.wh_core.specs.declared.reply.Reply.{Reply}
 use Rattle.wh_core.specs.declared.reply.Reply.TheVariants as reply
-use Rattle.wh_dialogue.specs.Dialogue.{AreAnswered, BeginsSo, Dialogue, IsAnswered, IsTalk, a_night, a_stranger, an_event, answers, no_night, opens, the_end, up_to_quit}
+use Rattle.wh_dialogue.specs.Dialogue.{AreAnswered, BeginsSo, Dialogue, IsAnswered, IsTalk, a_night, a_page_asked, a_stranger, all_changes, all_tables, an_event, answers, no_night, opens, changes_want_memory, tables_want_memory, the_end, up_to_quit}
 use Rattle.wh_dialogue.specs.Inner.Steps.{EndsWith, IsAnsweredIn, IsLineAnswered, a_command, goes_on, no_command, quits}
 use Rattle.wh_dialogue.specs.declared.talking.TalkEnd.{TalkEnd}
 use Rattle.wh_dialogue.specs.declared.talking.TalkEnd.TheVariants as ends
@@ -48,6 +48,9 @@ next_goes_on : (next : Command) (all : List Command) → next ≢ command.Quit �
 next_goes_on command.Quit all other = absurd (other refl)
 next_goes_on (command.Night parts) all other = refl
 next_goes_on (command.Event event) all other = refl
+next_goes_on (command.Page desk view limit after) all other = refl
+next_goes_on command.Tables all other = refl
+next_goes_on command.Changes all other = refl
 next_goes_on command.Unknown all other = refl
 
 -- ---- what stands
@@ -59,6 +62,11 @@ begun_names s _ log _ w _ parts (told_how.is_refused night texts r read ok other
 kept_names : (s setup : Setup) (log after : Log) (w stands : StandingOf) (asked : Command) (events : List Event) (replies : List Reply) (text : List ℕ)
     → IsAnswered s log w asked events replies text setup after stands → stands.names ≡ w.names
 kept_names s _ log _ w _ _ _ _ _ (an_event e r is asked same so) = refl
+kept_names s _ log _ w _ _ _ _ _ (a_page_asked desk view limit after said is) = refl
+kept_names s _ log _ w _ _ _ _ _ all_tables = refl
+kept_names s _ log _ w _ _ _ _ _ all_changes = refl
+kept_names s _ log _ w _ _ _ _ _ tables_want_memory = refl
+kept_names s _ log _ w _ _ _ _ _ changes_want_memory = refl
 kept_names s _ log _ w _ _ _ _ _ (a_stranger strange is) = refl
 kept_names s _ log _ w _ _ _ _ _ the_end = refl
 kept_names s _ log _ w _ _ _ _ _ (no_night parts said is other) = refl

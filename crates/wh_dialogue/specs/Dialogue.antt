@@ -1,17 +1,19 @@
 -- A dialogue: commands that are answered one after another.
-use Rattle.std.specs.Prelude.{◌≡◌, ◌≢◌, ℕ, Bool, true, false, List, [], ◌∷◌, ◌++◌, length, Option, IfSome, codes}
+use Rattle.std.specs.Prelude.{◌≡◌, ◌≢◌, ℕ, Bool, true, false, List, [], ◌∷◌, ◌++◌, length, Option, Result, IfSome, codes}
 use Rattle.std.specs.Io.KnownBytes.{Appends}
 use Rattle.std.specs.List.{flat_map}
+use Rattle.wh_core.specs.Changes.{change_written}
 use Rattle.wh_core.specs.Laws.{log_after}
 use Rattle.wh_core.specs.Log.{Log, logged}
-use Rattle.wh_core.specs.Nights.{Setup}
+use Rattle.wh_core.specs.Nights.{Setup, versions}
 use Rattle.wh_core.specs.Replies.{IsLegalRun, IsReply}
+use Rattle.wh_core.specs.Tables.{readable_now, sizes_now}
 use Rattle.wh_core.specs.declared.event.Event.{Event}
 use Rattle.wh_core.specs.declared.event.Event.TheVariants as event
 use Rattle.wh_core.specs.declared.reply.Cause.{Cause}
 use Rattle.wh_core.specs.declared.reply.Reply.{Reply}
 use Rattle.wh_core.specs.declared.reply.Reply.TheVariants as reply
-use Rattle.wh_dialogue.specs.Said.{said_line, said_of, told_text}
+use Rattle.wh_dialogue.specs.Said.{changes_text, page_told_text, said_line, said_of, tables_text, told_text}
 use Rattle.wh_dialogue.specs.declared.talking.TalkEnd.{TalkEnd}
 use Rattle.wh_dialogue.specs.declared.talking.TalkEnd.TheVariants as ends
 use Rattle.wh_live.specs.Commands.{Command, commands_of}
@@ -19,10 +21,12 @@ use Rattle.wh_live.specs.Commands as command
 use Rattle.wh_live.specs.Requests.{is_asked}
 use Rattle.wh_replies.specs.Events.{event_of}
 use Rattle.wh_replies.specs.ReplyText.{line}
+use Rattle.wh_stay.specs.Pages.{IsPageTold}
 use Rattle.wh_stay.specs.Standing.{StandingOf}
 use Rattle.wh_stay.specs.Told.{CarriesOn, IsNightTold, IsReady}
 use Rattle.wh_stay.specs.declared.told.NightTold.{NightTold}
 use Rattle.wh_stay.specs.declared.told.NightTold.TheVariants as told
+use Rattle.wh_text.specs.declared.fault.LoadFault.{LoadFault}
 use Rattle.wh_text_lines.specs.Words.{lines_of}
 use Rattle.wh_text_lines.specs.declared.schedule.event.ScheduledEvent.{ScheduledEvent}
 
@@ -66,10 +70,18 @@ pub data IsStrange : Command → Type 0 where
   not_asked : (event : ScheduledEvent) → is_asked event ≡ false → IsStrange (command.Event event)
 
 -- What a command comes to, after what was done, over what stands: the events that the machine is asked, its replies, and what is printed of
--- them. It leaves this setup, this log, and this standing. Only a night that begins is a night more, and only it brings texts
+-- them. It leaves this setup, this log, and this standing. Only a night that begins is a night more, and only it brings texts. A page, how
+-- many rows all tables have and what the open night changes are told of what was done, and are no events: they leave all as it was, a desk's
+-- bookmark too
 pub data IsAnswered (s : Setup) (log : Log) (w : StandingOf) : Command → List Event → List Reply → List ℕ → Setup → Log → StandingOf → Type 0 where
   an_event : (event : ScheduledEvent) (r : Reply) → is_asked event ≡ true → (asked : Event) → asked ≡ event_of (length w.names) event → IsReply s log asked r
       → IsAnswered s log w (command.Event event) (asked ∷ []) (r ∷ []) (said_of w event r) s (logged log asked r) w
+  a_page_asked : (desk : ℕ) (view : Option ℕ) (limit : ℕ) (after : Option (List ℕ)) (said : Result Reply LoadFault) → IsPageTold s log w desk view limit after said
+      → IsAnswered s log w (command.Page desk view limit after) [] [] (page_told_text w view said) s log w
+  all_tables : IsAnswered s log w command.Tables [] [] (tables_text w.names (sizes_now s log) (readable_now s log)) s log w
+  all_changes : IsAnswered s log w command.Changes [] [] (changes_text w (change_written (versions s log))) s log w
+  changes_want_memory : IsAnswered s log w command.Changes [] [] (line (codes "memory")) s log w
+  tables_want_memory : IsAnswered s log w command.Tables [] [] (line (codes "memory")) s log w
   a_stranger : (strange : Command) → IsStrange strange → IsAnswered s log w strange [] [] (line (codes "unknown")) s log w
   the_end : IsAnswered s log w command.Quit [] [] [] s log w
   no_night : (parts : List ℕ) (said : NightTold) → IsNightTold s log w parts said w s log → said ≢ told.Replied reply.Begun

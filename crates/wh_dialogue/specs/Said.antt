@@ -1,10 +1,12 @@
 -- What is printed of the replies to commands.
-use Rattle.std.specs.Prelude.{ℕ, List, [], ◌++◌, Option, codes, cond, decimal, slice_get, option_and_then, option_map, unwrap_or}
+use Rattle.std.specs.Prelude.{ℕ, ◌+◌, List, [], ◌∷◌, ◌++◌, Option, Ok, Err, Result, is_some, codes, cond, decimal, slice_get, option_and_then, option_map, unwrap_or}
+use Rattle.std.specs.List.{flat_map}
+use Rattle.wh_dag.specs.Written.{name_of}
 use Rattle.wh_core.specs.declared.reply.Cause.TheVariants as cause
 use Rattle.wh_core.specs.declared.reply.Reply.{Reply}
 use Rattle.wh_core.specs.declared.reply.Reply.TheVariants as reply
 use Rattle.wh_replies.specs.ReplyText.{line, reply_line}
-use Rattle.wh_row.specs.Bag.{bag_of}
+use Rattle.wh_row.specs.Bag.{Bag, bag_of}
 use Rattle.wh_stay.specs.Standing.{StandingOf}
 use Rattle.wh_stay.specs.declared.told.NightTold.{NightTold}
 use Rattle.wh_stay.specs.declared.told.NightTold.TheVariants as told
@@ -12,6 +14,7 @@ use Rattle.wh_store.specs.Pages.{Shown}
 use Rattle.wh_strategy.specs.Rules.{number_of}
 use Rattle.wh_text.specs.Columns.{NamedKind}
 use Rattle.wh_text.specs.FaultText.{fault_text}
+use Rattle.wh_text.specs.declared.fault.LoadFault.{LoadFault}
 use Rattle.wh_text_catalogue.specs.Definitions.{ViewOf}
 use Rattle.wh_text_lines.specs.declared.schedule.event.ScheduledEvent.{ScheduledEvent}
 use Rattle.wh_text_lines.specs.declared.schedule.event.ScheduledEvent.TheVariants as scheduled
@@ -40,3 +43,44 @@ abbrev pub told_text : NightTold → List ℕ
 told_text (told.Fault f) = line (fault_text f)
 told_text (told.Broken rule place) = line (codes "broken S" ++ decimal (number_of rule) ++ codes " at " ++ decimal place)
 told_text (told.Replied r) = said_line r
+
+-- the text of what is told of a page of a view: its rows as those of a read, a refusal, or a fault of the cells that were given
+abbrev pub page_told_text : StandingOf → Option ℕ → Result Reply LoadFault → List ℕ
+page_told_text w view (Ok (reply.Page page)) = page_lines w view page
+page_told_text w view (Ok r) = said_line r
+page_told_text w view (Err f) = line (fault_text f)
+
+-- ---- tables
+
+-- the line of a view: its name, and how many rows it has
+abbrev pub size_line : List ℕ → ℕ → List ℕ
+size_line name size = name ++ line (codes "," ++ decimal size)
+
+-- the lines of views of these names, of so many rows
+abbrev pub size_lines : List (List ℕ) → List ℕ → List ℕ
+size_lines (name ∷ names) (size ∷ sizes) = size_line name size ++ size_lines names sizes
+size_lines names sizes = []
+
+-- a version behind a space
+abbrev pub version_text : ℕ → List ℕ
+version_text version = codes " " ++ decimal version
+
+-- the text of how many rows all tables have: a header, a line for each view, and the versions that can be read
+abbrev pub tables_text : List (List ℕ) → List ℕ → List ℕ → List ℕ
+tables_text names sizes versions = line (codes "view,rows") ++ size_lines names sizes ++ line (codes "versions" ++ flat_map version_text versions)
+
+-- ---- changes
+
+-- the text of the change of a derived view, the view of this number: its name, and by how much each row counts otherwise, as a table is
+-- written; of a base view nothing
+abbrev pub change_text : StandingOf → ℕ → ViewOf → Bag → List ℕ
+change_text w number view change = cond (is_some view.definition) (line (codes "changes " ++ name_of w.names number) ++ table_text view.columns w.texts change) []
+
+-- of these views, the first having this number
+abbrev pub change_texts : StandingOf → ℕ → List ViewOf → (ℕ → Bag) → List ℕ
+change_texts w number [] change = []
+change_texts w number (view ∷ views) change = change_text w number view (change number) ++ change_texts w (number + 1) views change
+
+-- the text of what the open night changes: the change of each derived view, and a line that ends them
+abbrev pub changes_text : StandingOf → (ℕ → Bag) → List ℕ
+changes_text w change = change_texts w 0 w.views change ++ line (codes "end")

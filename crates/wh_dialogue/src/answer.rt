@@ -12,8 +12,10 @@ ghost use Rattle.wh_live.specs.Requests.{is_asked};
 ghost use Rattle.wh_replies.specs.ReplyText.{line};
 ghost use Rattle.wh_stay.specs.Standing.{IsLive, core_of, standing_of};
 
+use crate::changes::changes_text;
 use crate::night::night_text;
-use crate::page::append_reply;
+use crate::page::{append_reply, page_text};
+use crate::tables::tables_text;
 use std::alloc::{AllocError, Global};
 use std::thread::Threads;
 use wh_formula::{RowTest, RowValue};
@@ -81,6 +83,14 @@ pub(crate) fn answer<F: RowTest + Drop, G: RowValue + Drop, R: Threads + Sync>(
     match command {
         Command::Night(parts) => night_text(budget, live, &parts),
         Command::Event(event) => event_text(budget, live, event),
+        Command::Page {
+            desk,
+            view,
+            limit,
+            after,
+        } => page_text(budget, live, desk, view, limit, after.as_deref()),
+        Command::Tables => tables_text(budget.alloc, live),
+        Command::Changes => changes_text(budget, live),
         Command::Quit => Ok(Vec::new(budget.alloc)),
         Command::Unknown => unknown(budget.alloc),
     }

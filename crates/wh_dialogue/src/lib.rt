@@ -6,9 +6,11 @@
 #![tactic(auto)]
 
 mod answer;
+mod changes;
 mod laws;
 mod night;
 mod page;
+mod tables;
 mod talking;
 
 pub use laws::dialogues_are_legal_runs;

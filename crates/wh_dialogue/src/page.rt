@@ -1,17 +1,26 @@
 //! Writes what is printed of replies to single events.
 
-ghost use Rattle.std.specs.Prelude.{◌≡◌, ◌++◌, map, IfOk, OnOk};
-ghost use Rattle.wh_dialogue.specs.Said.{columns_among, page_lines, said_line, said_of};
+ghost use Rattle.std.specs.Prelude.{◌≡◌, ◌++◌, map, option_map, IfOk, OnOk};
+ghost use Rattle.wh_core.specs.Laws.{IsSetup};
+ghost use Rattle.wh_core.specs.Log.{Log};
+ghost use Rattle.wh_core.specs.Nights.{Setup};
+ghost use Rattle.wh_core.specs.Standing.{StandsWith};
+ghost use Rattle.wh_dialogue.specs.Inner.Steps.{IsAnsweredIn};
+ghost use Rattle.wh_dialogue.specs.Said.{columns_among, page_lines, page_told_text, said_line, said_of};
+ghost use Rattle.wh_live.specs.Commands as command;
 ghost use Rattle.wh_row.specs.Bag.{bag_of};
-ghost use Rattle.wh_stay.specs.Standing.{standing_of};
+ghost use Rattle.wh_stay.specs.Standing.{IsLive, core_of, standing_of};
 ghost use Rattle.wh_text_catalogue.specs.Definitions.{shown_view};
 ghost use Rattle.wh_text_tables.specs.Chunks.{chunks_text};
+ghost use Rattle.wh_text_tables.specs.TableWritten.{table_text};
 
 use std::alloc::{AllocError, Global};
 use std::thread::Threads;
 use wh_core::{Cause, Reply};
 use wh_formula::{RowTest, RowValue};
-use wh_load::{ChunkedText, Column, LentChunks, ScheduledEvent, WrittenView, write_table};
+use wh_load::{
+    ChunkedText, Column, Dict, LentChunks, LoadFault, ScheduledEvent, WrittenView, write_table,
+};
 use wh_replies::append_reply_line;
 use wh_row::{Bag, Records};
 use wh_stay::Live;
@@ -61,6 +70,21 @@ fn append_chunks(out: &mut Vec<u8>, text: LentChunks<'_>) -> Result<(), AllocErr
     out.extend_from_slice(text.last)
 }
 
+/// Appends rows of these columns, written as a table is.
+pub(crate) fn append_table<R: Threads + Sync>(
+    budget: &ThreadBudget<'_, R>,
+    out: &mut Vec<u8>,
+    columns: &[Column],
+    rows: &Bag,
+    texts: &Dict,
+) -> Result<(), AllocError>
+    ensures { OnOk result (out.new.items ≡ out.old.items ++ table_text columns.now texts.now rows.now) }
+{
+    let mut table = ChunkedText::new(budget.alloc);
+    write_table(budget, &mut table, columns, rows, texts)?;
+    append_chunks(out, table.chunks())
+}
+
 /// Appends a page of a view: its rows as a table, and a line that tells whether none follows.
 fn append_page<F: RowTest + Drop, G: RowValue + Drop, R: Threads + Sync>(
     budget: &ThreadBudget<'_, R>,
@@ -72,10 +96,8 @@ fn append_page<F: RowTest + Drop, G: RowValue + Drop, R: Threads + Sync>(
     ensures { OnOk result (out.new.items ≡ out.old.items ++ page_lines (standing_of live.now) view page.now) }
 {
     let rows = table_of(budget, &page.rows)?;
-    let mut table = ChunkedText::new(budget.alloc);
     let columns = columns_of(live.views(), view);
-    write_table(budget, &mut table, columns, &rows, live.texts())?;
-    append_chunks(out, table.chunks())?;
+    append_table(budget, out, columns, &rows, live.texts())?;
     if page.last {
         out.extend_from_slice(b"end\n")
     } else {
@@ -99,4 +121,45 @@ pub(crate) fn append_reply<F: RowTest + Drop, G: RowValue + Drop, R: Threads + S
         }
         _ => append_said(budget.alloc, out, reply),
     }
+}
+
+/// Appends what is told of a page of a view.
+fn append_page_told<F: RowTest + Drop, G: RowValue + Drop, R: Threads + Sync>(
+    budget: &ThreadBudget<'_, R>,
+    out: &mut Vec<u8>,
+    live: &Live<F, G>,
+    view: Option<usize>,
+    told: &Result<Reply, LoadFault>,
+) -> Result<(), AllocError>
+    ensures { OnOk result (out.new.items ≡ out.old.items ++ page_told_text (standing_of live.now) view told.now) }
+{
+    match told {
+        Ok(Reply::Page(page)) => append_page(budget, out, live, view, page),
+        Ok(reply) => append_said(budget.alloc, out, reply),
+        Err(fault) => {
+            fault.append_text(budget.alloc, out)?;
+            out.extend_from_slice(b"\n")
+        }
+    }
+}
+
+/// Returns what is printed of a page of a view, from its beginning or behind the row of these cells.
+/// Fails for want of memory.
+pub(crate) fn page_text<F: RowTest + Drop, G: RowValue + Drop, R: Threads + Sync>(
+    budget: &ThreadBudget<'_, R>,
+    live: &mut Live<F, G>,
+    desk: usize,
+    view: Option<usize>,
+    limit: usize,
+    after: Option<&[u8]>,
+) -> Result<Vec<u8>, AllocError>
+    requires { IsLive live.old }
+    ensures live { IsLive live.new }
+    ensures answered { IfOk result (λ text. (s : Setup) (log : Log) → IsSetup s → StandsWith s log (core_of live.old)
+        → IsAnsweredIn s log (standing_of live.old) (command.Page desk view limit (option_map (λ own. own.now) after.entry)) text.items live.new) }
+{
+    let told = live.page(budget, desk, view, limit, after);
+    let mut text = Vec::new(budget.alloc);
+    append_page_told(budget, &mut text, live, view, &told)?;
+    Ok(text)
 }

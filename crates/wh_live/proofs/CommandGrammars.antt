@@ -1,11 +1,11 @@
 -- Lines are read as the commands that they say.
-use Rattle.std.proofs.Common.{◌≡◌, refl, sym, ap, subst, ◌∙◌, ℕ, suc, ◌<◌, Bool, true, false, List, [], ◌∷◌, ◌++◌, Option, Some, None, All, append_assoc, append-nil, arith}
-use Rattle.std.specs.Prelude.{◌↔◌, if◌then◌else◌}
-use Rattle.std.specs.List.{cons_option, flat_map}
+use Rattle.std.proofs.Common.{◌≡◌, refl, sym, ap, subst, ◌∙◌, ℕ, suc, Bool, true, false, List, [], ◌∷◌, ◌++◌, Option, Some, None, All, append_assoc, append-nil, arith}
+use Rattle.std.specs.Prelude.{if◌then◌else◌}
+use Rattle.std.specs.List.{cons_option}
 use Rattle.std.proofs.lemmas.Grind.{flat_map-append}
 use Rattle.std.proofs.lemmas.List.Elements.{All-append, All-cons, All-nil}
-use Rattle.wh_live.specs.Requests.{asked_by, is_end}
-use Rattle.wh_live.specs.Commands.{Command, CommandGrammar, Event, IsLone, Night, Quit, SayCommands, Unknown, a_night, alone, an_event, begun_by, blank, commands_below, commands_of, line_in_full, no_end_yet, not_known, nothing, parts_in, taken, the_end}
+use Rattle.wh_live.specs.Requests.{asked_by, cells_in, is_end}
+use Rattle.wh_live.specs.Commands.{Changes, Command, CommandGrammar, Event, IsLone, Night, Page, Quit, SayCommands, Tables, Unknown, a_night, a_page, a_page_after, all_changes, all_tables, alone, an_event, begun_by, blank, commands_below, commands_of, line_in_full, no_end_yet, not_known, nothing, parts_in, the_end}
 use Rattle.wh_live.specs.declared.request.Request.{Request}
 use Rattle.wh_live.specs.declared.request.Request.TheVariants as request
 
@@ -27,10 +27,14 @@ module _ (names : List (List ℕ)) where
         → SayCommands names (line ∷ body ++ lines) (commands_below names (Some (parts_in body)) lines)
 
   module _ (line : List ℕ) (lines : List (List ℕ)) (below : Say lines) where
-    says_by : (asked : Option Request) → asked_by names line ≡ asked → SayCommands names (line ∷ lines) (cons_option (begun_by asked).1 (commands_below names (begun_by asked).0 lines))
+    says_by : (asked : Option Request) → asked_by names line ≡ asked → SayCommands names (line ∷ lines) (cons_option (begun_by line asked).1 (commands_below names (begun_by line asked).0 lines))
     says_by None e = blank line lines _ e below.fresh
     says_by (Some request.Night) e = below.amid line [] e (All-nil (λ inner. is_end inner ≡ false))
     says_by (Some (request.Event event)) e = alone line lines (Event event) _ (an_event event e) below.fresh
+    says_by (Some (request.Page desk view limit)) e = alone line lines (Page desk view limit None) _ (a_page desk view limit e) below.fresh
+    says_by (Some (request.PageAfter desk view limit)) e = alone line lines (Page desk view limit (Some (cells_in line))) _ (a_page_after desk view limit e) below.fresh
+    says_by (Some request.Tables) e = alone line lines Tables _ (all_tables e) below.fresh
+    says_by (Some request.Changes) e = alone line lines Changes _ (all_changes e) below.fresh
     says_by (Some request.Quit) e = alone line lines Quit _ (the_end e) below.fresh
     says_by (Some request.Unknown) e = alone line lines Unknown _ (not_known e) below.fresh
 
@@ -78,11 +82,15 @@ module _ (names : List (List ℕ)) where
       ∙ amid_none (parts ++ line_in_full inner) body (λ k d l. each (suc k) d (omega arith))
 
   by_line : (line : List ℕ) (lines : List (List ℕ)) (asked : Option Request) → asked_by names line ≡ asked
-      → commands_of names (line ∷ lines) ≡ cons_option (begun_by asked).1 (commands_below names (begun_by asked).0 lines)
-  by_line line lines asked e i = cons_option (begun_by (e i)).1 (commands_below names (begun_by (e i)).0 lines)
+      → commands_of names (line ∷ lines) ≡ cons_option (begun_by line asked).1 (commands_below names (begun_by line asked).0 lines)
+  by_line line lines asked e i = cons_option (begun_by line (e i)).1 (commands_below names (begun_by line (e i)).0 lines)
 
   lone_same : (line : List ℕ) (lines : List (List ℕ)) (command : Command) → IsLone names line command → commands_of names (line ∷ lines) ≡ command ∷ commands_of names lines
   lone_same line lines _ (an_event event e) = by_line line lines (Some (request.Event event)) e
+  lone_same line lines _ (a_page desk view limit e) = by_line line lines (Some (request.Page desk view limit)) e
+  lone_same line lines _ (a_page_after desk view limit e) = by_line line lines (Some (request.PageAfter desk view limit)) e
+  lone_same line lines _ (all_tables e) = by_line line lines (Some request.Tables) e
+  lone_same line lines _ (all_changes e) = by_line line lines (Some request.Changes) e
   lone_same line lines _ (the_end e) = by_line line lines (Some request.Quit) e
   lone_same line lines _ (not_known e) = by_line line lines (Some request.Unknown) e
 

@@ -1,2 +1,4 @@
 pub mod CommandGrammars
 pub mod HandedOut
+pub mod CellsBehind
+pub mod OtherWords

@@ -3,7 +3,7 @@
 ghost use Rattle.std.specs.Prelude.{◌≡◌, ◌++◌, None, Some, option_map, IfOk, OnErr, OnOk};
 ghost use Rattle.wh_live.specs.Commands.{CommandGrammar, begun_by, line_in_full, shown_command, taken};
 
-use crate::request::{Request, asked_by, is_end};
+use crate::request::{Request, asked_by, cells_in, is_end};
 use std::alloc::{AllocError, Global};
 use std::marker::Model;
 use std::mem;
@@ -17,6 +17,21 @@ pub enum Command {
     Night(Vec<u8>),
     /// An event of a schedule.
     Event(ScheduledEvent),
+    /// A page of a view in a desk's session.
+    Page {
+        /// The desk.
+        desk: usize,
+        /// The number of the view, or `None` where the name is no view's.
+        view: Option<usize>,
+        /// The most rows that are asked for.
+        limit: usize,
+        /// The cells of the row behind which the page begins, as a record writes them; `None` where it begins with the first row.
+        after: Option<Vec<u8>>,
+    },
+    /// How many rows all tables have, and which versions can be read.
+    Tables,
+    /// By how much the rows of derived views count otherwise in what the open night has written.
+    Changes,
     /// The end: no more commands are taken.
     Quit,
     /// A line that says nothing that is known.
@@ -108,6 +123,20 @@ impl Lines {
                 Ok(None)
             }
             Some(Request::Event(event)) => Ok(Some(Command::Event(event))),
+            Some(Request::Page { desk, view, limit }) => Ok(Some(Command::Page {
+                desk,
+                view,
+                limit,
+                after: None,
+            })),
+            Some(Request::PageAfter { desk, view, limit }) => Ok(Some(Command::Page {
+                desk,
+                view,
+                limit,
+                after: Some(cells_in(line).to_vec(alloc)?),
+            })),
+            Some(Request::Tables) => Ok(Some(Command::Tables)),
+            Some(Request::Changes) => Ok(Some(Command::Changes)),
             Some(Request::Quit) => Ok(Some(Command::Quit)),
             Some(Request::Unknown) => Ok(Some(Command::Unknown)),
             None => Ok(None),

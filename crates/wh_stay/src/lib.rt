@@ -7,6 +7,7 @@
 
 mod laws;
 mod live;
+mod page;
 mod reading;
 mod standing;
 mod told;

@@ -1,11 +1,13 @@
 //! Begins nights from their parts, and answers events.
 
 ghost use Rattle.std.specs.Prelude.{◌≡◌, ◌↔◌, ℕ, List, [], map, Ok, IfOk, IsTrue};
+ghost use Rattle.wh_core.specs.Changes.{change_written};
 ghost use Rattle.wh_core.specs.Laws.{IsSetup};
 ghost use Rattle.wh_core.specs.Log.{Log, logged};
-ghost use Rattle.wh_core.specs.Nights.{Setup, setup_of};
+ghost use Rattle.wh_core.specs.Nights.{Setup, setup_of, versions};
 ghost use Rattle.wh_core.specs.Replies.{IsReply};
 ghost use Rattle.wh_core.specs.Standing.{StandsWith};
+ghost use Rattle.wh_core.specs.Tables.{readable_now, sizes_now};
 ghost use Rattle.wh_load.specs.ReadingNight.{AreReadRows, ChangeRows};
 ghost use Rattle.wh_load.specs.ReadingShown.{shown_given};
 ghost use Rattle.wh_text.specs.Inner.Dict.{BeginsWith};
@@ -103,6 +105,16 @@ impl<F: RowTest + Drop, G: RowValue + Drop> Live<F, G> {
         ensures { result.now ≡ (standing_of self.now).texts }
     {
         &self.standing.texts
+    }
+
+    /// Returns the change that the open night has written so far of a view: each row counts what it counts then, less what it counts in the
+    /// current version. No row changes of a view that is not there, or where no night is open.
+    /// Fails for want of memory.
+    pub fn change(&self, view: usize) -> Result<Bag, AllocError>
+        requires { IsLive self.now }
+        ensures { IfOk result (λ change. (s : Setup) (log : Log) → IsSetup s → StandsWith s log (core_of self.now) → change ≡ change_written (versions s log) view) }
+    {
+        self.core.change(view)
     }
 
     /// Reads the parts of a night, adds it behind the others and begins it. A night that does not begin, for whatever cause, is not added:
@@ -203,5 +215,21 @@ impl<F: RowTest + Drop, G: RowValue + Drop> Live<F, G> {
         ensures reply { (s : Setup) (log : Log) → IsSetup s → StandsWith s log (core_of self.old) → StandsWith s (logged log event result) (core_of self.new) × IsReply s log event result }
     {
         self.core.step(event)
+    }
+
+    /// Returns how many rows the table of each view has in the current version, each row as often as it counts.
+    /// Fails for want of memory.
+    pub fn sizes(&self) -> Result<Vec<u128>, AllocError>
+        ensures { IfOk result (λ sizes. (s : Setup) (log : Log) → StandsWith s log (core_of self.now) → sizes.items ≡ sizes_now s log) }
+    {
+        self.core.sizes()
+    }
+
+    /// Returns the versions that sessions can be read of, the current one last.
+    /// Fails for want of memory.
+    pub fn readable(&self) -> Result<Vec<u64>, AllocError>
+        ensures { IfOk result (λ versions. (s : Setup) (log : Log) → StandsWith s log (core_of self.now) → versions.items ≡ readable_now s log) }
+    {
+        self.core.readable()
     }
 }

@@ -34,6 +34,7 @@ returns c = λ s log h.
         workers = h.workers;
         holders = h.holders;
         night = h.night;
+        put = h.put;
       },
       r,
     )

@@ -12,7 +12,8 @@ use Rattle.wh_core.specs.Nights.{night, published, remaining}
 use Rattle.wh_core.specs.Replies.{IsReply, more}
 use Rattle.wh_core.specs.Standing.{AreLeft, Stands}
 use Rattle.wh_core.proofs.Steps.{drop_one, ended_one, wave_over}
-use Rattle.wh_core.proofs.Moves.{all_passed, done_here, goes_here, held_here, here, job_done, job_refused, no_night_to_do, no_wave_to_do, slot_set, wave_done, wave_stopped, within_wave}
+use Rattle.wh_core.proofs.Put.{wave_put}
+use Rattle.wh_core.proofs.Moves.{all_passed, done_here, goes_here, held_here, here, job_done, job_refused, no_night_to_do, no_wave_to_do, open_here, slot_set, wave_done, wave_stopped, within_wave}
 use Rattle.wh_core.proofs.machine.Machine.done.Goals as goal
 
 pub returns-then-not-is_active : goal.returns-then-not-is_active
@@ -68,6 +69,7 @@ returns-then-self-outcomes c = λ s log h.
         workers = search rules;
         holders = slot_set m.holders.items s.workers c.args.worker None (holding log) (omega arith) h.holders;
         night = λ o. ended_one (night s log) (remaining s log) (drop m.place m.course.parts.items) m.course.stop m.drawn m.done (goes_here s log m h active) os c.in-Some-outcomes_at.ensures more_left;
+        put = h.put;
       },
       r,
     )
@@ -112,6 +114,7 @@ returns c = λ s log h.
         night = λ o. subst (λ parts. AreLeft (night s log) (after_done (remaining s log)) parts m.course.stop 0 0) (drop_one m.place m.course.parts.items)
             (wave_over (night s log) (remaining s log) (drop m.place m.course.parts.items) m.course.stop m.drawn m.done (goes_here s log m h active) os c.in-Some-outcomes_at.ensures lasts
             (all_passed s log m h c.args.worker (omega arith) active os c.in-Some-outcomes_at.ensures c.in-Some.job held own lasts) on);
+        put = λ o. wave_put (published s log) m.course.parts.items m.place os c.in-Some-outcomes_at.ensures (h.put (sym (open_here s log m h) ∙ active));
       }),
       r,
     )

@@ -33,6 +33,7 @@ returns c = λ s log h.
         workers = c.free_all.ensures.len ∙ h.workers;
         holders = λ w lt. c.free_all.ensures.free w (let f = h.workers in omega (arith, f, lt));
         night = λ o. absurd (false≢true o);
+        put = λ o. absurd (false≢true o);
       },
       r,
     )

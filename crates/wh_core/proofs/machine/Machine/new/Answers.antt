@@ -31,4 +31,5 @@ returns c = λ s opening desks workers versions. record {
   workers = ap length c.in_ok-holders.ensures ∙ so_many c.args.workers None ∙ sym workers;
   holders = λ w l. ap (λ xs. slice_get xs w) c.in_ok-holders.ensures ∙ free c.args.workers None w (omega (arith, workers, l));
   night = λ o. absurd (false≢true o);
+  put = λ o. absurd (false≢true o);
 }

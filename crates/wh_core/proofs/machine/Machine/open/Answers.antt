@@ -35,6 +35,7 @@ returns c = λ s log h.
         workers = h.workers;
         holders = h.holders;
         night = h.night;
+        put = h.put;
       },
       r,
     )

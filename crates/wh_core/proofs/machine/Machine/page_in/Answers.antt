@@ -11,6 +11,7 @@ use Rattle.wh_core.specs.Replies.{IsReply, more}
 use Rattle.wh_core.specs.Standing.{AreLeft, Stands}
 use Rattle.wh_core.proofs.Underway.{night-paged}
 use Rattle.wh_core.proofs.Steps.{drop_one, page_over}
+use Rattle.wh_core.proofs.Put.{page_put}
 use Rattle.wh_core.proofs.Tables.{keeps_paged}
 use Rattle.wh_core.proofs.Moves.{goes_here, no_memory_to_page, no_night_to_page, no_page, open_here, page_done, page_in_turn_there, page_stopped, page_there}
 use Rattle.wh_core.proofs.Accepts.{page_accepted}
@@ -58,6 +59,7 @@ returns-in_default-apply_next c = λ s log h.
         workers = h.workers;
         holders = h.holders;
         night = h.night;
+        put = h.put;
       },
       no_memory_to_page s log m h active c.in-Some.op.now c.in-Some.ensures,
     )
@@ -86,6 +88,7 @@ returns c = λ s log h.
         night = λ o. subst (λ n. AreLeft n (after_page (remaining_in n log)) (drop (m.place + 1) m.course.parts.items) m.course.stop 0 0) (sym (night-paged s log))
             (subst (λ parts. AreLeft (night s log) (after_page (remaining s log)) parts m.course.stop 0 0) (drop_one m.place m.course.parts.items)
             (page_over (night s log) (remaining s log) (drop m.place m.course.parts.items) m.course.stop m.drawn m.done (goes_here s log m h active) op first on));
+        put = λ o. page_put (published s log) _ m.course.parts.items m.place op there.view there.rows first there.writes (put ∙ ap page_in_turn (sym (page_in_turn_there s log m h active op first))) (h.put (sym (open_here s log m h) ∙ active));
       }),
       r,
     )

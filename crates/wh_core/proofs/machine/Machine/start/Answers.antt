@@ -35,6 +35,7 @@ returns-in_default-apply_next c = λ s log h closed left few allowed are end.
         workers = h.workers;
         holders = h.holders;
         night = h.night;
+        put = h.put;
       },
       no_memory_to_begin s log closed left few allowed c.args.course.parts.items c.args.course.stop are,
     )
@@ -54,6 +55,7 @@ returns c = λ s log h closed left few allowed are end.
         holders = λ w lt. c.free_all.ensures.free w (let f = h.workers in omega (arith, f, lt));
         night = λ o. subst (λ n. AreLeft n (untouched (legs_of n)) c.args.course.parts.items c.args.course.stop 0 0) (sym (night-began s log))
             (goes_from_first s log closed left few allowed c.args.course.parts.items c.args.course.stop are c.in_default.ensures);
+        put = λ o. record { before = published s log; list = refl };
       },
       r,
     )

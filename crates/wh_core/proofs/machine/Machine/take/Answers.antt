@@ -73,6 +73,7 @@ returns c = λ s log h.
         workers = search rules;
         holders = slot_set m.holders.items s.workers c.args.worker (Some m.drawn) (holding log) (omega arith) h.holders;
         night = λ o. drew (night s log) (remaining s log) (drop m.place m.course.parts.items) m.course.stop m.drawn m.done g os c.in-Some.ensures l;
+        put = h.put;
       },
       r,
     )
