@@ -15,7 +15,7 @@ MOST_COMMANDS = 55
 # Events that a schedule alone has, words too few or too many, numbers that are none, and lines that are nothing at all.
 UNKNOWN = [b"begin", b"take 0", b"done 0", b"page", b"commit 1", b"giveup 0", b"close 0 0", b"read 0 b0 1 1", b"night 1", b"quit now"]
 UNKNOWN += [b"open", b"close", b"read 0 b0", b"read b0 0 1", b"read 0 b0 x", b"open x", b"open -1", b"open +1", b"open 1000001"]
-UNKNOWN += [b"tables now", b"page 0 b0", b"page 0 b0 1 b0", b"page 0 b0 1 before 1", b"page b0 0 1", b"page 0 b0 x after 1", b"page 0 b0 1 after1"]
+UNKNOWN += [b"tables now", b"changes now", b"night changes", b"page 0 b0", b"page 0 b0 1 b0", b"page 0 b0 1 before 1", b"page b0 0 1", b"page 0 b0 x after 1", b"page 0 b0 1 after1"]
 UNKNOWN += [b"Commit", b"nights", b"@end", b"@night", b"@strategy", b"# quit", b"commit\r", b"quit\r", b"\r", b"\xff\xfe", b"\x00", b"B\xc3\xa4ume"]
 UNKNOWN += [b"x" * 70000]
 BLANK = [b"", b" ", b"\t \t"]
@@ -137,11 +137,11 @@ class Talk:
 
     def ended(self):
         """The end of a night that can be committed."""
-        return self.line(self.source.choice(["commit", "commit", "giveup"]))
+        return self.line(self.source.choice(["commit", "commit", "giveup", "changes"]))
 
     def given_back(self):
         """What comes behind a refusal amid a night, which leaves it open."""
-        return self.line(self.source.choice(["giveup", "giveup", "commit"]))
+        return self.line(self.source.choice(["giveup", "giveup", "commit", "changes"]))
 
     def any_command(self):
         kind = self.source.randrange(10)
@@ -156,7 +156,7 @@ class Talk:
         desk = self.source.choice([*range(self.how["desks"]), self.how["desks"], 1000000])
         name = self.source.choice([*(view.name for view in self.drawer.views), "zz", "0"])
         if kind == 8:
-            return self.source.choice([self.line("tables"), self.page(desk, name, self.source.choice(LIMITS))])
+            return self.source.choice([self.line("tables"), self.line("changes"), self.page(desk, name, self.source.choice(LIMITS))])
         return self.line(*self.source.choice([("open", desk), ("close", desk), ("read", desk, name, self.source.choice(LIMITS))]))
 
     def at_desk(self):
@@ -281,8 +281,10 @@ DIALOGUE = [
     ("night\n@changes a\n#,x\n1,elm\n1,fir\n-1,yew\n@end\n", "refused Absent\n"),
     ("night\n@changes a\n#,x\n1,fir\n1,elm\n@end\n", "begun\njob 0\ndone\npaged 2\npaged 2\nready\n"),
     ("read 0 a 9\n", "#,x\n1,oak\nend\n"),
+    ("changes\n", "changes v\n#,x,n\n1,fir,1\n1,elm,1\nend\n"),
     ("night\n@changes a\n#,x\n1,ash\n@end\n", "refused NightOpen\n"),
     ("commit\n", "version 1\n"),
+    ("changes\n", "changes v\n#,x,n\nend\n"),
     (" \t\n", ""),
     ("open 1\n", "session 1\n"),
     ("read 1 v 2\n", "#,x,n\n1,oak,1\n1,fir,1\nmore\n"),

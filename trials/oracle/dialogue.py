@@ -67,6 +67,8 @@ class Dialogue:
                 return ""
             case ["tables"]:
                 return self.tables(*self.machine.tables())
+            case ["changes"]:
+                return self.changes(self.machine.written())
             case ["page", desk, view, limit] if is_number(desk) and is_number(limit):
                 return self.behind(int(desk), view, int(limit), None)
             case ["page", desk, view, limit, "after", *_] if is_number(desk) and is_number(limit):
@@ -154,12 +156,21 @@ class Dialogue:
         said = [f"{view.name},{size}" for view, size in zip(self.opening.views, sizes)]
         return "\n".join(["view,rows", *said, " ".join(["versions", *map(str, versions)])]) + "\n"
 
+    def changes(self, written):
+        """The change of each derived view under its name, as a table."""
+        derived = [(view, change) for view, change in zip(self.opening.views, written) if view.over]
+        return "".join(f"changes {view.name}\n{self.table(view, [(change[row], *row) for row in sorted(change)])}" for view, change in derived) + "end\n"
+
     def page(self, name, told):
         """A page as a table, whose cells are texts where the machine has their numbers."""
         view = self.opening.views[self.opening.names[name]]
         rows = [list(map(int, row.split())) for row in ROWS.findall(told)]
+        return self.table(view, rows) + told.rpartition(" ")[2] + "\n"
+
+    def table(self, view, rows):
+        """Rows, each behind its count, under the header of their view."""
         said = [["#", *(column for column, _ in view.columns)], *([row[0], *self.shown(view, row[1:])] for row in rows)]
-        return "".join(map(record, said)) + told.rpartition(" ")[2] + "\n"
+        return "".join(map(record, said))
 
     def shown(self, view, cells):
         texts = list(self.opening.numbers)

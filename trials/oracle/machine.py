@@ -231,6 +231,11 @@ class Machine(Evaluator):
         """How many rows the tables of the current version have, and the versions that can be read."""
         return [sum(table.values()) for table in self.versions[-1]], [each for each in range(len(self.versions)) if self.unexpired(each)]
 
+    def written(self):
+        """By how much each row counts otherwise in what the open night has written, view by view."""
+        written = self.night.tables if self.night else self.versions[-1]
+        return [after(new, {row: -count for row, count in old.items()}) for new, old in zip(written, self.versions[-1])]
+
     def expired(self, session):
         return f"expired {session.version} current {self.current} {'active' if self.night else 'idle'}"
 

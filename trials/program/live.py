@@ -40,7 +40,7 @@ FEW, EACH = 500, 8
 SOON, PAUSE = 2, 0.03
 REFUSALS = "NoSession SessionOpen NoView NoDesk Limit NightOpen NoNight NotReady Large Range Absent".split()
 KINDS = ["begun", "job", "done", "paged", "ready", "version", "session", "closed", "unknown", "quiet", "broken"]
-KINDS += ["page end", "page more", "behind end", "behind more", "tables", "expired active", "expired idle"]
+KINDS += ["page end", "page more", "behind end", "behind more", "tables", "changes", "rows change", "expired active", "expired idle"]
 KINDS += [f"refused {name}" for name in REFUSALS] + [f"fault {name}" for name in ("part", "header", "csv", "number", "strategy")]
 KINDS += [f"end {end}" for end in ("quit", "end", "amid", "begun", "unended")] + ["refused range", "refused large", "each byte"]
 
@@ -51,6 +51,8 @@ def kinds_of(command, answer):
         return [f"{'page' if command.split()[0] == b'read' else 'behind'} {answer.splitlines()[-1]}"]
     if command.split()[:1] == [b"tables"] and answer.startswith("view,"):
         return ["tables"]
+    if command.split()[:1] == [b"changes"] and answer.startswith("changes "):
+        return ["changes", *(["rows change"] if answer.count("\n") > 2 * answer.count("changes ") + 1 else [])]
     lines = [line.split() for line in answer.splitlines()] or [["quiet"]]
     wide = {"refused": lambda words: words[:2], "fault": lambda words: words[:2], "expired": lambda words: [words[0], words[-1]]}
     return [" ".join(wide.get(words[0], lambda words: words[:1])(words)) for words in lines]

@@ -6,6 +6,7 @@ from trials.oracle.later_nights import Fault
 from trials.oracle.machine import Machine
 from trials.spoilt.exchanged import other
 from trials.spoilt.machines import FALSIFIED
+from whview.catalogue.evaluator import after
 
 # These differ where several workers are at work, where a job is taken or done by itself, or where nights are known beforehand.
 UNTOLD = [
@@ -69,6 +70,10 @@ def with_itself(own, it, desk, name, limit, row):
     return own(desk, name, limit, row and (*row[:-1], row[-1] - 1))
 
 
+def between(old, new):
+    return [after(one, {row: -count for row, count in other.items()}) for one, other in zip(new, old)]
+
+
 FALSIFIED_DIALOGUES = [other(Dialogue, name, instead) for name, instead in {
     "texts of a night that does not begin stay": {"forget": lambda *_: None},
     "a night is given up where it is refused": {"carried_on": given_up_by_itself},
@@ -87,6 +92,9 @@ FALSIFIED_DIALOGUES = [other(Dialogue, name, instead) for name, instead in {
     "tables are those of the version before": {"tables": lambda own, it, sizes, versions: own([sum(table.values()) for table in it.machine.versions[-2:][0]], versions)},
     "tables tell different rows": {"tables": lambda own, it, sizes, versions: own([len(table) for table in it.machine.versions[-1]], versions)},
     "tables tell all versions": {"tables": lambda own, it, sizes, versions: own(sizes, range(len(it.machine.versions)))},
+    "changes are turned round": {"changes": lambda own, _, written: own([{row: -count for row, count in change.items()} for change in written])},
+    "changes are rows that come alone": {"changes": lambda own, _, written: own([{row: n for row, n in change.items() if n > 0} for change in written])},
+    "changes outlive their night": {"changes": lambda own, it, written: own(between(*it.machine.versions[-2:]) if not it.machine.night and it.machine.current else written)},
     "a page ends where more follows": {"page": lambda own, _, *given: own(*given).removesuffix("more\n") + "end\n"},
 }.items()]
 FALSIFIED_MACHINES = [other(Machine, "a page begins at the row that is named", {"behind": with_itself})]
