@@ -18,6 +18,8 @@ from whview.cluster.carrying import tsv
 from whview.cluster.command import password
 from whview.cluster.making import durable
 from whview.cluster.servers import Lost, Server, Told
+from whview.cluster.status_of import OfServer, Status
+from whview.cluster.status_page import age, page
 from whview.cluster.versions import REMEMBERED, Stage, Version, stage_of
 from whview.finding import Failure
 from whview.sql.catalogue import read
@@ -130,6 +132,36 @@ def test_what_no_server_answers_is_not_known():
         Server("127.0.0.1:1").judged(500, b"Code: 57. DB::Exception: Table w.`~v3` already exists. (TABLE_ALREADY_EXISTS) (version 23.8.1)")
 
 
+PAGE = """\
+version 4, opened: made by night, 3 minutes ago (2026-12-01 05:00:00 UTC)
+it has 3 slots; 5 versions are kept
+
+view  rows
+----  ----
+a        4
+sold    12
+
+server  answers  release  marks  slots  parts  lacks
+------  -------  -------  -----  -----  -----  --------------------------------------------------------
+a:8123  yes      18.16.1      3      3      7  a:8123 has no mark of slots [4], which the version lists
+b:8123  no
+
+at work: nobody
+pinned: nothing
+behind:
+    b:8123 does not answer
+"""
+
+
+def test_how_a_warehouse_stands_is_read_by_people():
+    servers = [OfServer("a:8123", True, "18.16.1", ["a:8123 has no mark of slots [4], which the version lists"], 3, 3, 7), OfServer("b:8123")]
+    found = Status(
+        4, "opened", 3, "night", 1796101200, 200, 3, {"a": 4, "sold": 12}, 5, None, [], [], [], 0, servers, ["b:8123 does not answer"],
+    )  # fmt: skip
+    assert "".join(page(found)) == PAGE
+    assert [age(seconds) for seconds in (0, 1, 90, 130, 7300, 200000)] == ["0 seconds ago", "1 second ago", "90 seconds ago", "2 minutes ago", "2 hours ago", "2 days ago"]
+
+
 def test_words_that_are_wrong_get_one_line():
     with TemporaryDirectory() as path:
         folder = Folder(path, ["127.0.0.1:1"], "w")
@@ -148,6 +180,8 @@ def test_words_that_are_wrong_get_one_line():
             (folder.told("night", servers=["a..b:1"]), 4, "no whole answer came"),
             (folder.told("night", servers=["a" * 70 + ":1"]), 4, "no whole answer came"),
             (folder.told("fold", "--version", "1"), 2, "--version goes with read"),
+            (folder.told("status", "--format", "xml"), 2, "--format is text or json"),
+            (folder.told("night", "--format", "json"), 2, "--format goes with status"),
             (folder.told("night"), 4, "no whole answer came"),
         ]
         wrong = [each for found, *meant in cases for each in one_line(found, *meant)]

@@ -171,26 +171,26 @@ def without_the_others(processes):
     small.begun(small.changes({(1, 6): 1}))
     with TemporaryDirectory() as path:
         folder = Folder(path, processes.servers(), small.database)
-        begun = json.loads(folder.told("status")[2])
+        begun = json.loads(folder.told("status", "--format", "json")[2])
         processes.all[-1].stop()
         try:
             told = {what: folder.told(*what.split()) for what in ("versions", "read b", "read j", "give-up")}
-            status = json.loads(folder.told("status")[2])
+            status = json.loads(folder.told("status", "--format", "json")[2])
         finally:
             processes.restart()
         wrong = [f"{what}: {found}" for what, found in told.items() if found[0] != (4 if what == "read j" else 0)]
         answers, behind = [each["answers"] for each in status["servers"]], " ".join(status["behind"])
         wrong += [] if answers[0] and not answers[-1] and "does not answer" in behind else [f"while a server is down: {status}"]
-        stands = json.loads(folder.told("status")[2])
+        stands = json.loads(folder.told("status", "--format", "json")[2])
         wrong += [] if stands["behind"] == [] else [f"after a give-up: {stands['behind']}"]
         living = [[each.partition(" since ")[0] for each in found["attempts"]] for found in (begun, stands)]
         wrong += [] if living == [["night in slot 3"], []] else [f"attempts before a give-up and after it: {living}"]
         folder.told("fold")
         Sweep(small.warehouse, AT_ONCE).drop_versions()
-        behind = json.loads(folder.told("status")[2])["behind"]
+        behind = json.loads(folder.told("status", "--format", "json")[2])["behind"]
         wrong += [] if len(behind) == 1 and "`sweep`" in behind[0] else [f"after a fold: {behind}"]
         folder.told("sweep", "--keep", "1d")
-        code, err, out = folder.told("status")
+        code, err, out = folder.told("status", "--format", "json")
     whole = json.loads(out)
     wrong += [] if (code, err, whole["behind"], whole["version"]) == (0, "", [], small.versions.newest().seq) else [f"status: {code}, {err}, {out}"]
     return wrong + small.differs()

@@ -1,5 +1,7 @@
 """What tools/bench measures of a cluster comes to its end, on facts that the servers make themselves."""
 
+from tempfile import TemporaryDirectory
+
 from upkeep.bench.clickhouse import SALES, Star
 from whview.cluster import checking, keeping
 from whview.cluster.reading import Session
@@ -9,7 +11,11 @@ FACTS, CHANGED = 2000, 100
 
 def measured(processes):
     """What is wrong with a star of few facts behind a night, views from scratch beside it, a fold and a read."""
-    stars = Star(processes, FACTS)
+    with TemporaryDirectory() as folder:
+        return of_star(Star(processes, FACTS, folder))
+
+
+def of_star(stars):
     had = stars.warehouse.versions.newest().totals[SALES]
     stars.night(CHANGED)
     stars.scratch()

@@ -50,6 +50,10 @@ TEXT = re.compile(r"'(?:[^'\\]|\\.)*'", re.DOTALL)
 T = TypeVar("T")
 
 
+class NothingStands(Lost):
+    """However often it was asked for, no path was made."""
+
+
 class Node(NamedTuple):
     """A path in ZooKeeper: when it was made, by a number and by the clock."""
 
@@ -176,7 +180,7 @@ class AgreedVersions(Versions):
             if found is not None:
                 return found == said
             time.sleep(PAUSE)
-        raise Lost(f"{self.server}: nothing stands at {self.at(letter, seq)}")
+        raise NothingStands(f"{self.server}: nothing stands at {self.at(letter, seq)}")
 
     def sent(self, server: Server, table: str, letter: str, seq: int, said: str, replica: str, how: str = "CREATE") -> bool:
         """Sends what makes a path with a row, and a replica of it, or takes that up. Answers whether that is there."""

@@ -27,7 +27,7 @@ from ..folder.inputs import CHANGES, FORMS, TABLE, by_view, entries, stranger
 from ..folder.records import Changes, Records
 from ..sql.tokens import Unfit
 from ..status import SIGNALLED
-from . import backup, checking, keeping, making, many, moving, nights, reading, recasting, repairing, status_of
+from . import backup, checking, keeping, making, many, moving, nights, reading, recasting, repairing, status_of, status_page
 from .servers import PATIENCE, Key, Lost, Server, Told, context
 from .status import BAD_INPUT, BAD_WORDS, DONE, FAILED, REFUSED
 from .streaming import Plain, plain
@@ -61,7 +61,7 @@ COMMANDS = {
     "read": "prints a view of a version as CSV",
     "fold": "puts the newest version's slots together, so that nights stay short",
     "sweep": "removes versions that were followed longer ago than a time",
-    "status": "prints how the warehouse stands, as JSON, and what is behind",
+    "status": "prints how the warehouse stands, server by server, and what is behind",
     "check": "looks whether each server has all rows of a version",
     "repair": "gives a server that lost rows those that others have, or that can be computed",
     "recast": "makes a version by the catalogue as it is now, with views that come, go or are defined anew",
@@ -88,14 +88,17 @@ OPTIONS: dict[str, dict[str, Any]] = {
     "--native": {"type": int, "metavar": "PORT", "help": "by which port servers speak with each other; without it 9000, or 9440 with --https"},
     "--to": {"type": Path, "metavar": "PATH", "help": "the folder of the backup, which is not there yet"},
     "--from": {"type": Path, "dest": "source", "metavar": "PATH", "help": "the folder of the backup"},
+    "--format": {"metavar": "KIND", "help": "text, for people, or json, for machines; without it text"},
     "--again": {"action": "store_true", "help": "also where the changes are in the newest version already"},
 }
 OF = {
     "--version": ("read", "check", "backup"), "--keep": ("sweep",), "--again": ("night",), "--native": ("config",), "--to": ("backup",),
-    "--from": ("restore",), "--replicas": ("create", "config"),
+    "--from": ("restore",), "--replicas": ("create", "config"), "--format": ("status",),
 }  # fmt: skip
 # What the first server alone is asked for; of a read that holds where the view is not shared out.
 OF_FIRST = ("versions", "give-up", "read", "status", "unpin")
+# How `status` is written.
+STATUS_FORMATS = ("text", "json")
 ADDRESS = re.compile(r"(?:[A-Za-z0-9_.-]+|\[[0-9A-Fa-f:.]+\]):([0-9]{1,5})")
 TIME = re.compile(r"([0-9]+)(s|m|h|d)?")
 LONGEST = 10**7
@@ -177,7 +180,7 @@ def judge_options(words: Namespace) -> None:
         refused_words("read takes a view" if words.command == "read" else f"{words.command} takes no {words.view!r}")
     given = {
         "--version": words.version, "--keep": words.keep, "--again": words.again or None, "--native": words.native, "--to": words.to,
-        "--from": words.source, "--replicas": words.replicas,
+        "--from": words.source, "--replicas": words.replicas, "--format": words.format,
     }  # fmt: skip
     for option, value in given.items():
         if value is not None and words.command not in OF[option]:
@@ -186,6 +189,8 @@ def judge_options(words: Namespace) -> None:
             refused_words(f"{words.command} wants {option} PATH")
     if words.command == "sweep" and not (words.keep and TIME.fullmatch(words.keep)):
         refused_words(f"sweep wants --keep TIME, such as 90s, 10m, 8h or 2d{', and not ' + repr(words.keep) if words.keep else ''}")
+    if words.format is not None and words.format not in STATUS_FORMATS:
+        refused_words(f"--format is {' or '.join(STATUS_FORMATS)}, and not {words.format[:40]!r}")
     if words.native is not None and not 0 < words.native < 65536:
         refused_words(f"--native is a port, and not {words.native}")
     if not 0 < words.seconds <= LONGEST:
@@ -389,7 +394,7 @@ def sweep(words: Namespace, warehouse: Warehouse) -> int:
 def status(words: Namespace, warehouse: Warehouse) -> int:
     """How the warehouse stands; 1 where something is behind."""
     found = status_of.of(warehouse)
-    print(json.dumps(found.told(), indent=2))
+    sys.stdout.writelines([json.dumps(found.told(), indent=2), "\n"] if words.format == "json" else status_page.page(found))
     return REFUSED if found.behind else DONE
 
 

@@ -16,7 +16,7 @@ from typing import TYPE_CHECKING
 
 from ..catalogue.formulas import NAME
 from ..sql.tokens import joined, number, sql, text
-from . import leftovers, standing
+from . import leftovers, releases, standing
 from .servers import GONE, TAKEN, Told
 
 if TYPE_CHECKING:
@@ -138,7 +138,10 @@ class Generations:
     # ---- who may still read
 
     def is_read(self, server: Server, since: int, end: float) -> bool:
-        """Whether somebody is at work on a server who began before a time of the first server's clock; until the end it is waited for them."""
+        """Whether somebody is at work on a server who began before a time of the first server's clock; until the end it is waited for them. Where no
+        table that goes waits for readers, none is waited for."""
+        if not releases.drops_wait(server, self.warehouse.dialect):
+            return False
         while self.is_any_since(server, since):
             if time.monotonic() > end:
                 return True

@@ -5,10 +5,11 @@ from __future__ import annotations
 import secrets
 from typing import TYPE_CHECKING
 
-from ..finding import Failure
+from ..finding import Failure, warn
 from ..sql.slots import NO_SLOT, Slot
 from ..sql.tokens import joined, name, number, sql, text
-from . import links, readers, standing
+from . import links, readers, releases, standing
+from .agreed import NothingStands
 from .carrying import Carrying
 from .leftovers import made_empty
 from .nights import attempted, carried, idle
@@ -44,6 +45,7 @@ def create(warehouse: Warehouse) -> None:
     """Makes the tables on each server; the words and the first version come last, so that what was cut off is no warehouse."""
     servers, dialect = warehouse.every, warehouse.dialect
     servers.each(lambda server: server.learn())
+    warn([told for server in servers.all for told in releases.untried(server)])
     for server, made in zip(servers.all, servers.each(warehouse.made)):
         if made:
             told = f"there is a warehouse in {dialect.schema} on {server} already, made by servers {' '.join(made.servers)}"
@@ -58,7 +60,7 @@ def create(warehouse: Warehouse) -> None:
     carry(warehouse, warehouse.plain.create(settings))
     if warehouse.copies:
         carry(warehouse, warehouse.plain.tables_of_rows())
-        begin(warehouse)
+        begin_agreed(warehouse)
         readers.show(warehouse, readers.ON_THEIR_WAY)
     else:
         carry(warehouse, warehouse.plain.tables_of_versions())
@@ -100,6 +102,14 @@ def begin(warehouse: Warehouse) -> None:
                     definitions=warehouse.definitions, tables=warehouse.tables)
     if not versions.created(first):
         raise Failure(FAILED, f"whview cluster: another client makes {warehouse.dialect.schema}")
+
+
+def begin_agreed(warehouse: Warehouse) -> None:
+    """The same where versions are in ZooKeeper, which a server may not be able to keep there."""
+    try:
+        begin(warehouse)
+    except NothingStands as error:
+        raise Failure(REFUSED, f"whview cluster: {releases.without_paths(warehouse.servers.first)}") from error
 
 
 def judge_empty(server: Server, dialect: ClickHouse) -> None:

@@ -22,6 +22,7 @@ from urllib.parse import urlencode
 
 from ..finding import Failure
 from ..sql.slots import Where
+from . import releases
 from .status import REFUSED
 
 OVERFLOWS = "read read_leaf group_by sort result timeout timeout_leaf set join transfer distinct".split()
@@ -39,6 +40,8 @@ WANTED: dict[str, int | str] = {
     "fsync_metadata": 1,
     "data_type_default_nullable": 0,
     "use_query_cache": 0,
+    # A table that was dropped is gone when that is answered, in ZooKeeper too, so that one of its name can be made.
+    "database_atomic_wait_for_drop_and_detach_synchronously": 1,
     # What servers say is added up, once for all of them, and where there is nothing that is told by a 0.
     "distributed_group_by_no_merge": 0,
     "distributed_product_mode": "deny",
@@ -124,6 +127,8 @@ class Server:
         self.address, self.key, self.tls, self.seconds = address, key, tls, seconds
         self.settings: dict[str, int | str] = {}
         self.only_reads = False
+        # Its release, as it tells that; empty where nobody asked.
+        self.release = ""
         self.idle: list[Idle] = []
 
     def __str__(self) -> str:
@@ -232,8 +237,9 @@ class Server:
         return rows
 
     def learn(self) -> None:
-        """Which of the settings the server has. Who may only read cannot say any; theirs have to be so that no rows are left out."""
-        there = {name: value for name, value in self.asked("SELECT name, value FROM system.settings")}
+        """Of which release the server is, and which of the settings it has. Who may only read cannot say any; theirs have to be so that no rows are left out."""
+        there = {name: value for name, value in self.asked(releases.QUESTION)}
+        self.release = there.pop(releases.RELEASE, "")
         wanted = {name: value for name, value in WANTED.items() if name in there}
         self.only_reads = there.get("readonly") == "1"
         if not self.only_reads:

@@ -24,10 +24,11 @@ MANY_SLOTS = 30
 
 @dataclass
 class OfServer:
-    """How a server stands: whether it answers, what of the newest version it lacks, and how many marks, slots with rows and parts it has."""
+    """How a server stands: whether it answers, its release, what of the newest version it lacks, and how many marks, slots with rows and parts it has."""
 
     address: str
     answers: bool = False
+    release: str = ""
     lacks: list[str] = field(default_factory=list)
     marks: int = 0
     slots: int = 0
@@ -70,7 +71,7 @@ def of_server(warehouse: Warehouse, server: Server, newest: Version, seen: set[t
         found.parts = int(server.asked(warehouse.written(said))[0][0])
     except (Told, Lost):
         return found
-    found.answers, found.lacks = True, there.faults(newest.slots)
+    found.answers, found.release, found.lacks = True, server.release, there.faults(newest.slots)
     found.marks, found.slots = len(there.marks), len({slot for slot, _ in there.rows})
     seen |= there.rows
     return found

@@ -2,18 +2,25 @@
 
 The star of tools/star, with a tenth of `--facts`, as many, and ten times as many in turn, is made on the servers; then nights of 1,000 and
 of 10,000 changed facts are carried out, over one slot and over eleven, with the facts alone changing and with a shop and two prices
-besides. What is printed are medians in seconds, by the clock and, in brackets, of the processor's, the servers' and the client's together:
-of the night, of the views from scratch, and of a read of the summary. No parts are put together meanwhile, and no views go. Three servers
-on one machine show no speed-up: they share its processors.
+besides. A night is the command, from its start to its end, a process of its own with the changes as files. What is printed are medians in
+seconds, by the clock and, in brackets, of the processor's, the servers' and the client's together: of a night of one changed fact, of the
+nights, of the views from scratch, and of a read of the summary; and what the two nights take of the views from scratch. No parts are put
+together meanwhile, and no views go. Three servers on one machine show no speed-up: they share its processors.
 """
 
+import os
 import statistics
+import subprocess
 import sys
 import time
 from collections import Counter
+from pathlib import Path
+from tempfile import TemporaryDirectory
 
 from trials.drawn import star
 from trials.servers.clickhouse import NAME, Processes, clickhouse
+from upkeep.words import ROOT
+from whview.catalogue.parts import line
 from whview.cluster import keeping, making, nights, reading, standing
 from whview.cluster.carrying import Carrying
 from whview.cluster.versions import Purpose, Stage
@@ -40,11 +47,36 @@ def sale(number):
     return number, number % star.SHOPS, number // star.SHOPS % star.PRODUCTS, number % 5 + 1
 
 
-class Star:
-    """The star on servers, with so many facts that stand there from the beginning on."""
+class Folder:
+    """The star's folder, and the command over it as somebody types it."""
 
-    def __init__(self, processes, facts):
+    def __init__(self, path, addresses, database):
+        self.path, self.servers = Path(path), [word for address in addresses for word in ("--server", address)]
+        self.more = ["--database", database, "--cluster", NAME]
+        for name, text in (("catalogue.toml", star.CATALOGUE), ("strategy.txt", star.STRATEGY)):
+            (self.path / name).write_text(text.partition("\n")[2])
+        (self.path / "changes").mkdir()
+
+    def put(self, view, rows):
+        """The changes of a view, in its file."""
+        lines = [line(["#", *(column for column, _ in view.columns)]), *(line([count, *row]) for row, count in rows.items())]
+        (self.path / "changes" / f"{view.name}.csv").write_text("".join(lines))
+
+    def told(self, command):
+        """Runs a command to its end, and ends everything where it fails. What Python compiles is kept, as where it is installed."""
+        words = [sys.executable, "-S", ROOT / "python/whview/__main__.py", "cluster", command, self.path, *self.servers, *self.more]
+        without = {name: value for name, value in os.environ.items() if name != "PYTHONDONTWRITEBYTECODE"}
+        ran = subprocess.run(words, capture_output=True, text=True, env={**without, "PYTHONPYCACHEPREFIX": str(ROOT / "out/pycache")})
+        if ran.returncode:
+            sys.exit(f"{command}: {ran.stdout}{ran.stderr}")
+
+
+class Star:
+    """The star on servers, with so many facts that stand there from the beginning on, and its folder."""
+
+    def __init__(self, processes, facts, folder):
         self.processes, servers = processes, processes.servers()
+        self.folder = Folder(folder, processes.addresses(), f"star{facts}")
         self.catalogue = Catalogue(star.CATALOGUE + star.STRATEGY)
         shards = ["sales:id"] if len(servers) > 1 else []
         self.warehouse, self.next, self.first, self.moved = Warehouse(self.catalogue, servers, f"star{facts}", shards, NAME), facts, 0, 0
@@ -97,17 +129,19 @@ class Star:
         end = time.monotonic() + REST
         while time.monotonic() < end and any(self.warehouse.servers.each(lambda server: server.asked(AT_WORK))):
             time.sleep(0.1)
-        began = time.monotonic(), self.processes.seconds() + time.process_time()
+        began = time.monotonic(), self.used()
         found = do()
-        return found, (time.monotonic() - began[0], self.processes.seconds() + time.process_time() - began[1])
+        return found, (time.monotonic() - began[0], self.used() - began[1])
+
+    def used(self):
+        """The processor's seconds of the servers, and of the client's processes that have ended."""
+        return self.processes.seconds() + sum(os.times()[:4])
 
     def night(self, count, with_others=False):
         """How long a night takes."""
-        changes = self.changes(count, with_others)
-        (_, refusal), took = self.timed(lambda: nights.night(self.warehouse, changes, self.catalogue.correct()))
-        if refusal:
-            sys.exit(f"a night of {count} changes: {refusal}")
-        return took
+        for v, rows in self.changes(count, with_others).items():
+            self.folder.put(self.catalogue.views[v], rows)
+        return self.timed(lambda: self.folder.told("night"))[1]
 
     def slots(self, count):
         """Has the newest version lie in so many slots."""
@@ -127,15 +161,22 @@ class Star:
 
 
 def measured(stars, rounds, slots, count):
-    """Medians of a night of facts, of one with others, of the views from scratch and of a read; the second night has a slot more."""
-    found = [[], [], [], []]
+    """Medians of a night of one fact, of one of facts, of one with others, of the views from scratch and of a read; each night has a slot more than
+    the one before."""
+    found = [[], [], [], [], []]
     for _ in range(rounds):
         stars.slots(slots)
-        found[2].append(stars.scratch())
-        found[3].append(stars.read())
-        found[0].append(stars.night(count))
-        found[1].append(stars.night(count, True))
+        found[3].append(stars.scratch())
+        found[4].append(stars.read())
+        found[1].append(stars.night(count))
+        found[2].append(stars.night(count, True))
+        found[0].append(stars.night(2))
     return [tuple(map(statistics.median, zip(*times))) for times in found]
+
+
+def ratio(times, beside):
+    """How much of something a night takes, by the clock and by the processor."""
+    return "{:.2f} ({:.2f})".format(*(one / other for one, other in zip(times, beside)))
 
 
 def measure(asked):
@@ -144,12 +185,17 @@ def measure(asked):
     if not program:
         print("cluster: there is no clickhouse-server here and it could not be installed")
         return
-    print("servers  facts  slots  changes  night  with a shop and two prices  views from scratch  read of by_kind")
+    print("servers  facts  slots  changes  night of one  night  with a shop and two prices  views from scratch  read of by_kind  of these  of these, with others")
     for servers in (1, 3):
         for facts in (int(asked.facts * scale) for scale in SCALES):
-            with Processes(program, servers) as processes:
-                stars = Star(processes, facts)
-                for slots in SLOTS:
-                    for count in CHANGED:
-                        times = measured(stars, asked.rounds, slots, count)
-                        print(servers, facts, slots, count, *(f"{wall:.2f} ({used:.2f})" for wall, used in times), sep="  ", flush=True)
+            with Processes(program, servers) as processes, TemporaryDirectory() as folder:
+                measure_star(Star(processes, facts, folder), asked.rounds, servers, facts)
+
+
+def measure_star(stars, rounds, servers, facts):
+    """Prints the lines of one star."""
+    for slots in SLOTS:
+        for count in CHANGED:
+            times = measured(stars, rounds, slots, count)
+            shown = [f"{wall:.2f} ({used:.2f})" for wall, used in times]
+            print(servers, facts, slots, count, *shown, ratio(times[1], times[3]), ratio(times[2], times[3]), sep="  ", flush=True)
