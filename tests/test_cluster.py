@@ -75,6 +75,21 @@ def test_an_opening_goes_through_the_child_of_the_most_rows(catalogue, slots):
         assert re.findall(r'FROM "w"\."(\w+)"', said)[0] == largest
 
 
+def test_a_change_of_few_rows_is_held_in_memory_and_a_large_table_is_gone_through(catalogue):
+    products, sales = catalogue.names["products"], catalogue.names["sales"]
+    steps = [step for step in Steps(catalogue.views).night(catalogue.correct()) if step.kind == "comp" and step.view == sales]
+    step = next(step for step in steps if any(operand.is_change and operand.view == products for operand in step.terms[0]))
+
+    def read(lines):
+        script = Slots(catalogue, ClickHouse("w"), rows=[lines if view.name == "lines" else 10 for view in catalogue.views])
+        script.changed = [2] * len(catalogue.views)
+        return re.findall(r'FROM "w"\."(\w+)"', script.dialect.written([script.comp(step)[0].said])[0])
+
+    # Of many lines those are gone through that have one of the products, and the few orders are read whole; of few the orders that such lines have.
+    assert read(10**6) == ["lines", "products", "products", "orders"]
+    assert read(20) == ["lines", "products", "products", "orders", "lines", "products"]
+
+
 def test_an_operand_is_after_its_inst(catalogue):
     found = [step for step in Steps(catalogue.views).night(catalogue.correct()) if step.kind == "comp"]
     assert [operand.is_after for operand in found[1].terms[0]] == [True, False, False]

@@ -95,6 +95,18 @@ def an_emptied_copy(processes):
     return wrong + ([] if any("b on" in each for each in told) else [f"a check tells {told}"])
 
 
+def a_broken_part(processes):
+    """A part of the last server's is broken, which it leaves out when it starts, without a word."""
+    small = Small(processes.servers(), SHARES)
+    small.night({(number, 100 + number): 1 for number in range(1, 9)}, {(number, "yew"): 1 for number in range(1, 9)})
+    last, slot = processes.all[-1], small.versions.newest().slots[-1]
+    last.stop()
+    for part in (last.folder / "data/data" / small.database / "a%7E0").glob(f"{slot}_*"):
+        (part / "columns.txt").write_text("broken")
+    last.start().wait()
+    return noticed(small, "is not whole", "a~0 on", "no rows in slot", views=("j",))
+
+
 def rows_exchanged(processes):
     """A row of a part goes and another one comes, so that there are as many as before."""
     small = Small(processes.servers(), SHARES)
@@ -263,6 +275,6 @@ def await_user(processes, name):
 
 
 LOST = [
-    a_shard_from_before, a_first_server_from_before, a_first_server_from_before_a_night, an_emptied_copy, rows_exchanged,
+    a_shard_from_before, a_first_server_from_before, a_first_server_from_before_a_night, an_emptied_copy, a_broken_part, rows_exchanged,
     servers_listed_otherwise, a_server_down, without_the_others, of_before, other_addresses, who_may_only_read,
 ]  # fmt: skip

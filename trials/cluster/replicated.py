@@ -4,16 +4,17 @@ is given four servers as processes, two of each shard, and answers what came oth
 import copy
 import time
 from contextlib import ExitStack, contextmanager
+from pathlib import Path
 from tempfile import TemporaryDirectory
 from unittest.mock import patch
 
-from whview.cluster import keeping, many, nights, replicas
+from whview.cluster import backup, keeping, making, many, nights, replicas
 from whview.cluster.keeping import Sweep
 from whview.cluster.recasting import recast
 from whview.cluster.servers import Lost, Server, Told
 from whview.finding import Failure
 
-from trials.cluster import recasts
+from trials.cluster import backups, recasts
 from trials.cluster.inputs import Folder, done, one_line
 from trials.cluster.killed import AMID, Blow
 from trials.cluster.recasts import OTHER
@@ -273,6 +274,31 @@ def recast_and_back(processes):
     return wrong + back.differs("by those that failed in a recast", back.of_shard(0)) + back.faults("behind two recasts")
 
 
+def backed_up(processes):
+    """A backup is made while one server of each shard is down. What it has is restored on one server without replicas, and from there with them,
+    where nights go on."""
+    tried = Many(processes)
+    tried.night(tried.small.changes({(1, 6): 1, (2, 8): 1}, {(2, "elm"): 1}))
+    for each in (processes.all[0], processes.all[3]):
+        each.kill()
+    with TemporaryDirectory() as path:
+        kept, again = Path(path) / "kept", Path(path) / "again"
+        many.carried_out(tried.replicas(), "backup", lambda warehouse: backup.backup(warehouse, kept).version, None)
+        processes.restart()
+        alone, other = copy.copy(tried.small), copy.copy(tried)
+        alone.warehouse = backups.made(alone, processes.servers()[:1])
+        backup.restore(alone.warehouse, kept)
+        wrong = alone.differs(None, "restored without replicas")
+        backup.backup(alone.warehouse, again)
+        other.small = copy.copy(tried.small)
+        other.small.database = f"{tried.small.database}_again"
+        making.create(other.replicas().new())
+        many.carried_out(other.replicas(), "restore", lambda warehouse: backup.restore(warehouse, again).seq, None)
+    wrong += other.differs("restored with replicas") + other.faults("restored with replicas")
+    other.night(other.small.changes({(1, 6): -1, (4, 44): 1}, {(4, "fir"): 1}))
+    return wrong + other.differs("restored with replicas, and a night")
+
+
 def other_addresses(processes):
     """A server that comes back on other ports, of which all were told, is the one of before once `readdress` was told so: also where another one is
     down just then, and is told later."""
@@ -329,6 +355,6 @@ def by_the_command(processes):
         return wrong + done(folder.told("check"), "check when all are back")
 
 
-REPLICATED = [goes_on, comes_back, too_old, waits_for_all, first_is_first, the_first_server_gone, lost_rows, recast_and_back, other_addresses,
-              by_the_command]  # fmt: skip
+REPLICATED = [goes_on, comes_back, too_old, waits_for_all, first_is_first, the_first_server_gone, lost_rows, recast_and_back, backed_up,
+              other_addresses, by_the_command]  # fmt: skip
 

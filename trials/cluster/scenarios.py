@@ -9,7 +9,7 @@ from contextlib import contextmanager, suppress
 from http.server import BaseHTTPRequestHandler, ThreadingHTTPServer
 from unittest.mock import patch
 
-from whview.cluster import keeping, nights
+from whview.cluster import keeping, nights, servers as of_servers
 from whview.cluster.keeping import Sweep
 from whview.cluster.reading import Session
 from whview.cluster.servers import Key, Lost, Server, Told
@@ -21,6 +21,8 @@ from trials.cluster.asleep import ASLEEP
 from trials.cluster.small_warehouse import A, AT_ONCE, B, J, S, STRATEGY, Small
 
 SHARES = ["a:k", "b:t"]
+# So long the servers of a trial keep a connection, in seconds.
+KEPT = 2.5
 
 
 def ends(do, *words):
@@ -433,22 +435,46 @@ def names_that_are_words(servers):
 
 
 def judged_by_key(servers):
-    """Of a large table a night looks up what it takes away alone; nothing where it takes nothing away."""
-    small, read = Small(servers[:1], before={A: {(key, 5): 1 for key in range(30000)}, B: {(1, "oak"): 1}}), []
+    """Of a large table a night looks up what it takes away alone, and of rows beside that one column; nothing where it takes nothing away."""
+    small, read, sizes = Small(servers[:1], before={A: {(key, 5): 1 for key in range(30000)}, B: {(1, "oak"): 1}}), [], []
     sent = Server.sent
 
     def watched(server, said, *given, **more):
         answer = sent(server, said, *given, **more)
         if '"~absent"' in said:
-            read.append(json.loads(answer)["statistics"]["rows_read"])
+            statistics = json.loads(answer)["statistics"]
+            read.append(statistics["rows_read"])
+            sizes.append(statistics["bytes_read"])
         return answer
 
     with patch.object(Server, "sent", watched):
         small.night({(40000 + number, 5): 1 for number in range(100)})
         wrong = [f"{read} rows were looked up for rows that come"] if read else []
         small.night({(7, 5): -1, (7, 6): 1})
-    wrong += [f"{read} rows were looked up for one that goes"] if not read or sum(read) > 10000 else []
+        wrong += [f"{read} rows were looked up for one that goes"] if not read or sum(read) > 10000 else []
+        read.clear(), sizes.clear()
+        # A row has 28 bytes, and a key 8.
+        small.night({(key, 5): -1 for key in range(100, 30000, 1000)})
+        wrong += [f"{sizes} bytes of {read} rows were looked up for some that go"] if sum(sizes) > 12 * sum(read) else []
     return wrong + small.differs()
+
+
+def connections_stay(servers):
+    """A night goes over few connections, which are used again as long as the servers keep them."""
+    small, made, sent = Small(servers, SHARES), [], []
+    connect, send = Server.connection, Server.sent
+
+    def connecting(server):
+        made.append(str(server))
+        return connect(server)
+
+    def sending(server, *given, **more):
+        sent.append(str(server))
+        return send(server, *given, **more)
+
+    with patch.object(Server, "connection", connecting), patch.object(Server, "sent", sending), patch.object(of_servers, "YOUNG", KEPT):
+        small.night({(1, 6): 1, (2, 7): -1}, {(2, "elm"): 1}, client=others(small, Server))
+    return [] if len(sent) > 4 * len(made) else [f"{len(sent)} statements of a night went over {len(made)} connections"]
 
 
 # ---- servers that answer wrongly
@@ -516,5 +542,5 @@ def wrong_answers(_=None):
 SCENARIOS = [
     refusals, committed_whole, twice_at_once, work_is_told, given_up, folded_between, swept_in_a_night, behind_a_fold, reader_and_sweep,
     sleeper, lost_insert, lost_commit, by_hand, at_the_limits, past_64_bits, hasty, own_ways, wrong_answers, sent_twice, kept_back, comps_kept_back,
-    names_that_are_words, judged_by_key, *ASLEEP,
+    names_that_are_words, judged_by_key, connections_stay, *ASLEEP,
 ]  # fmt: skip

@@ -73,6 +73,11 @@ def named(made: Statement) -> Iterator[None]:
         raise Lost(f"{made.label}: {lost}") from lost
 
 
+def telling(rows: Sequence[Row]) -> int:
+    """The column of which rows have the most values, so that it finds them among others soonest."""
+    return max(range(len(rows[0])), key=lambda column: len({row[column] for row in rows}))
+
+
 class Carrying:
     """Steps over a version, into a slot. `changes` has of each base view its netted rows, or is None for an opening. By now each view has
     grown by `more`, so many of its rows have `changed`, and its slot has so many, `gross`."""
@@ -90,7 +95,9 @@ class Carrying:
         self.steps = 0
 
     def script(self, netted: bool) -> Slots:
-        return self.warehouse.script(self.base.slots, self.slot, netted, [self.total(v) for v in range(len(self.views))])
+        found = self.warehouse.script(self.base.slots, self.slot, netted, [self.total(v) for v in range(len(self.views))])
+        found.changed = [*self.changed]
+        return found
 
     def run(self, steps: Iterable[Step]) -> Held:
         """Carries the steps out. Answers what each view holds then, of which every server has a mark."""
@@ -195,9 +202,10 @@ class Carrying:
         """Refuses a base change that takes away what is not there, or leaves more of a row than can be counted. Only what may be so is
         looked up: all that changes where the view may come near what can be counted, and else what is taken away, if anything is."""
         v, script = step.view, self.script(False)
-        counts = self.changes.get(v, {}).values()
-        is_near = self.base.totals[v] + sum(count for count in counts if count > 0) >= EXACT
-        for made in script.judge(step, not is_near) if is_near or any(count < 0 for count in counts) else ():
+        rows = self.changes.get(v, {})
+        is_near = self.base.totals[v] + sum(count for count in rows.values() if count > 0) >= EXACT
+        taken = [row for row, count in rows.items() if count < 0]
+        for made in script.judge(step, None if is_near else telling(taken)) if is_near or taken else ():
             absent, large = self.asked(made)
             if absent or large:
                 raise Refusal(script.told_absent(v) if absent else script.told_large(v))

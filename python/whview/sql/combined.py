@@ -8,15 +8,28 @@ from __future__ import annotations
 
 from abc import abstractmethod
 from collections.abc import Callable, Iterable, Sequence
+from typing import NamedTuple
 
 from ..catalogue.views import Formula, Place
 from .clickhouse import ClickHouse, alias
 from .dialect import COUNT
 from .formulas import ALWAYS, Formulas, both
 from .shape import Join, Spot
-from .steps import Term
+from .steps import Operand, Term
 from .tables import Tables
 from .tokens import Sql, joined, name, number, sql, text
+
+
+# A table of so few rows, and so much fewer than another one has, is read whole, since to find out which rows of it that meets would cost more.
+FEW, FEWER = 100_000, 16
+
+
+class Side(NamedTuple):
+    """One side of a join: its rows, their columns, and how many rows the largest of its tables has, where that is known."""
+
+    rows: Sql
+    columns: list[Sql]
+    size: int
 
 
 def places(formula: Formula) -> list[Place]:
@@ -28,13 +41,14 @@ def places(formula: Formula) -> list[Place]:
 
 class Combined(Tables[ClickHouse]):
     """The terms of Comps over slots: `before` are those of a version, and `slot` is the night's own; where the states are `netted`, rows that cancel are not
-    gone through. There are so many `servers`, and of each view so many `rows`, where that is known."""
+    gone through. There are so many `servers`, and of each view so many `rows`, of which so many are `changed`, where that is known."""
 
     before: Sql
     slot: Sql
     servers: int
     netted: bool
     rows: Sequence[int]
+    changed: Sequence[int] = ()
 
     @abstractmethod
     def is_shared(self, v: int) -> bool:
@@ -185,15 +199,21 @@ class Combined(Tables[ClickHouse]):
     # ---- what a child meets
 
     def meets(self, v: int, term: Term, join: Join, before: Sequence[int]) -> list[Sql]:
-        """A test that a child's row can meet rows of one child before it, by the columns that join them; none where nothing changes."""
+        """A test that a child's row can meet rows of one child before it, by the columns that join them; none where nothing changes, or where the
+        child has few rows beside the other one."""
         if not any(operand.is_change for operand in term) or term[join.child].is_change:
             return []
         u = self.views[v].over[join.child]
         for other in before:
             pairs = [(a, b) for a, b in join.pairs if a.child == other and b.column < self.shape.groups(u)]
             if pairs:
-                return [self.met(v, term, join.child, pairs, before)]
+                return [] if self.is_few(term[join.child], term[other]) else [self.met(v, term, join.child, pairs, before)]
         return []
+
+    def is_few(self, operand: Operand, beside: Operand) -> bool:
+        """Whether an operand has few rows, and much fewer than a table has."""
+        has = self.size(operand)
+        return not beside.is_change and has <= FEW and has * FEWER < self.size(beside)
 
     def met(self, v: int, term: Term, child: int, pairs: list[tuple[Spot, Spot]], before: Sequence[int]) -> Sql:
         users, other = self.users(self.views[v].over[child]), pairs[0][0].child
@@ -213,6 +233,11 @@ class Combined(Tables[ClickHouse]):
 
     # ---- joins
 
+    def size(self, operand: Operand) -> int:
+        """How many rows an operand has, where that is known."""
+        found = self.changed if operand.is_change else self.rows
+        return found[operand.view] if found else 0
+
     def joins(self, v: int, term: Term) -> list[Join]:
         """The children in their order. Where nothing changes, the one of the most rows is gone through, and the others are held in memory."""
         own = [child for child in range(len(term)) if self.is_local(v, child)]
@@ -222,30 +247,32 @@ class Combined(Tables[ClickHouse]):
 
     def joined_rows(self, v: int, term: Term) -> tuple[Sql, list[Sql]]:
         """The combined rows of a term, and what is left to be tested of its joins."""
-        found: Sql | None = None
-        columns, before, left = list[Sql](), list[int](), list[Sql]()
+        found: Side | None = None
+        before, left = list[int](), list[Sql]()
         for join in self.joins(v, term):
-            rows = self.filtered(v, term, join.child, before)
-            own = self.columns_of_child(v, join.child)
+            side = Side(self.filtered(v, term, join.child, before), self.columns_of_child(v, join.child), self.size(term[join.child]))
             keys = [(a, b) for a, b in join.pairs if a.child != b.child]
             left += [sql("{a} = {b}", a=self.place_of(a), b=self.place_of(b)) for a, b in join.pairs if a.child == b.child]
-            found = rows if found is None else self.joined_with(found, columns, rows, own, keys, join.child)
-            columns, before = columns + own, [*before, join.child]
+            found = side if found is None else self.joined_with(found, side, keys, join.child)
+            before.append(join.child)
         assert found is not None, "a view is over one view at least"
-        return found, left
+        return found.rows, left
 
     def columns_of_child(self, v: int, child: int) -> list[Sql]:
         spots = sorted(spot for spot in self.wanted(v) if spot.child == child)
         return [*map(self.place_of, spots), alias("n", child + 1)]
 
-    def joined_with(self, left: Sql, columns: list[Sql], right: Sql, own: list[Sql], keys: list[tuple[Spot, Spot]], child: int) -> Sql:
+    def joined_with(self, left: Side, right: Side, keys: list[tuple[Spot, Spot]], child: int) -> Side:
+        """Two sides joined. The engine holds the second one in memory, and goes through the first: that is the larger one, where it is known."""
         names = [alias("k", child + 1, at) for at in range(len(keys))]
         sides = []
-        for rows, listed, side in ((left, columns, 0), (right, own, 1)):
-            more = [sql("{spot} AS {key}", spot=self.place_of(pair[side]), key=key) for pair, key in zip(keys, names)]
-            sides.append(sql("(SELECT {columns} FROM ({rows}))", columns=joined([*listed, *more]), rows=rows))
-        how = sql("ALL INNER JOIN {right} USING ({keys})" if keys else "CROSS JOIN {right}", right=sides[1], keys=joined(names))
-        return sql("SELECT {columns} FROM {left} {how}", columns=joined([*columns, *own]), left=sides[0], how=how)
+        for place, side in enumerate((left, right)):
+            more = [sql("{spot} AS {key}", spot=self.place_of(pair[place]), key=key) for pair, key in zip(keys, names)]
+            sides.append(sql("(SELECT {columns} FROM ({rows}))", columns=joined([*side.columns, *more]), rows=side.rows))
+        first, second = sides[::-1] if right.size > left.size else sides
+        how = sql("ALL INNER JOIN {second} USING ({keys})" if keys else "CROSS JOIN {second}", second=second, keys=joined(names))
+        columns = [*left.columns, *right.columns]
+        return Side(sql("SELECT {columns} FROM {first} {how}", columns=joined(columns), first=first, how=how), columns, max(left.size, right.size))
 
     # ---- terms
 

@@ -564,12 +564,16 @@ class Slots(Combined):
     def net(self, step: Net) -> list[Statement]:
         return [self.filling(step.view)]
 
-    def judge(self, step: Judge, taken_alone: bool = False) -> list[Statement]:
+    def judge(self, step: Judge, sought: int | None = None) -> list[Statement]:
         """How many touched rows stand less than not at all, and how many more often than can be counted; each server has those it has whole.
-        Only those of which something is taken away are looked up where no count can become too large."""
-        v = step.view
-        taken = sql("AND {count} < 0", count=COUNT) if taken_alone else NOTHING
-        rows, touched = self.rows_in(v, self.after()), self.touched(v, sql("IN"), self.table(v), taken)
+        Where no count can become too large only those are looked up of which something is taken away: first by one column of theirs, `sought`, so
+        that no more than that is read of most others."""
+        v, table, taken = step.view, self.table(step.view), NOTHING
+        if sought is not None:
+            taken, column = sql("AND {count} < 0", count=COUNT), self.users(v)[sought]
+            table = sql("{table} PREWHERE {column} IN (SELECT {column} FROM {there} {taken})", table=table, column=column, taken=taken,
+                        there=self.rows_in(v, self.slot))
+        rows, touched = self.rows_in(v, self.after(), table), self.touched(v, sql("IN"), self.table(v), taken)
         inner = sql(
             "SELECT sum({count}) AS {n}, sum(toFloat64({count})) AS {f} FROM {rows} AND {touched} {grouped}",
             count=COUNT, n=alias("n"), f=alias("f"), rows=rows, touched=touched, grouped=self.grouped(self.groups(v)),

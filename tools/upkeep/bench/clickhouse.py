@@ -34,6 +34,8 @@ ROUNDS = 3
 # So long it is waited for at most until the servers are at rest.
 REST = 30
 AT_WORK = "SELECT 1 FROM system.merges"
+# What the number of a fact that leaves goes by, so that they lie anywhere; by how much those that come are not as those that leave.
+STRIDE, APART = 7919, 1013
 CHANGED, SLOTS, SCALES = (1_000, 10_000), (1, 11), (0.1, 1, 10)
 SALES, SHOPS, PRODUCTS = range(3)
 FACTS = (
@@ -79,7 +81,8 @@ class Star:
         self.folder = Folder(folder, processes.addresses(), f"star{facts}")
         self.catalogue = Catalogue(star.CATALOGUE + star.STRATEGY)
         shards = ["sales:id"] if len(servers) > 1 else []
-        self.warehouse, self.next, self.first, self.moved = Warehouse(self.catalogue, servers, f"star{facts}", shards, NAME), facts, 0, 0
+        self.warehouse, self.facts = Warehouse(self.catalogue, servers, f"star{facts}", shards, NAME), facts
+        self.next, self.first, self.moved = facts + APART, 0, 0
         making.create(self.warehouse)
         self.load(facts)
         making.open_views(self.warehouse)
@@ -114,7 +117,7 @@ class Star:
     def changes(self, count, with_others):
         """So many changed facts, of which half leave; and perhaps a shop and two prices."""
         half = count // 2
-        sales = Counter({sale(number): -1 for number in range(self.first, self.first + half)})
+        sales = Counter({sale(number * STRIDE % self.facts): -1 for number in range(self.first, self.first + half)})
         sales.update({sale(number): 1 for number in range(self.next, self.next + half)})
         self.first, self.next, shops, products = self.first + half, self.next + half, Counter(), Counter()
         if with_others:

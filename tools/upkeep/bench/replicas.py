@@ -30,7 +30,7 @@ class Shards(Star):
 
     def __init__(self, processes, facts, copies):
         self.processes, self.catalogue, self.copies = processes, Catalogue(star.CATALOGUE + star.STRATEGY), copies
-        self.next, self.first, self.moved = facts, 0, 0
+        self.facts, self.next, self.first, self.moved = facts, facts, 0, 0
         making.create(self.replicas().new() if copies > 1 else self.plain())
         tables = {
             SALES: Counter({sale(number): 1 for number in range(facts)}),
