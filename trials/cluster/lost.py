@@ -104,7 +104,7 @@ def a_broken_part(processes):
     for part in (last.folder / "data/data" / small.database / "a%7E0").glob(f"{slot}_*"):
         (part / "columns.txt").write_text("broken")
     last.start().wait()
-    return noticed(small, "is not whole", "a~0 on", "no rows in slot", views=("j",))
+    return noticed(small, "is not whole", "a~0 on", "no rows in slot", views=())
 
 
 def rows_exchanged(processes):

@@ -3,8 +3,8 @@
 from __future__ import annotations
 
 import re
+from html import escape
 from typing import TYPE_CHECKING
-from xml.sax.saxutils import escape
 
 from ..finding import Failure
 from ..sql.tokens import sql
@@ -80,11 +80,11 @@ def config(servers: Sequence[str], cluster: str, port: int | None, is_https: boo
         raise Failure(BAD_WORDS, f"whview cluster: {cluster!r} cannot stand in a configuration: say --cluster NAME, of letters and digits")
     native = port or (NATIVE_BY_TLS if is_https else NATIVE)
     more = ["<secure>1</secure>"] if is_https else []
-    more += [f"<user>{escape(user)}</user>", "<password>PASSWORD</password>"] if user != "default" else []
+    more += [f"<user>{escape(user, quote=False)}</user>", "<password>PASSWORD</password>"] if user != "default" else []
     shards = []
     for server in servers:
         host = server.rpartition(":")[0].strip("[]")
-        replica = "".join([f"<host>{escape(host)}</host>", f"<port>{native}</port>", *more])
+        replica = "".join([f"<host>{escape(host, quote=False)}</host>", f"<port>{native}</port>", *more])
         shards.append(f"<shard><weight>1</weight><replica>{replica}</replica></shard>")
     if replicas == 1:
         named = [f"    <{cluster}>", *(f"      {shard}" for shard in shards), f"    </{cluster}>"]
