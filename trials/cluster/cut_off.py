@@ -64,6 +64,8 @@ def tables_made_again(processes):
         leave()
         wrong += [] if is_asked(tried, victim) else [f"{what} is left, and {victim.address} is never asked again"]
         wrong += tried.differs(f"where {what} is left", [victim]) + tried.faults(f"where {what} is left")
+        if wrong:
+            break
     return wrong
 
 

@@ -46,7 +46,7 @@ def though_it_goes(versions, letter, seq):
 
 SPOILT_REPLICAS = [
     Spoilt("a recast judged by those that are asked", [(replicated, "recast", by_those_asked)], replicated.recast_and_back),
-    Spoilt("readers by a function of tables", [(Slots, "read_by_all", by_function)], newest.by_every_server),
+    Spoilt("readers by a function of tables", [(Slots, "read_by_all", by_function), (newest, "until", lambda do: do())], newest.by_every_server),
     Spoilt(
         "tables made as if none had been",
         [(served, "made_empty", just_made), (warehouse, "made_empty", just_made), (served, "PATIENCE", SOON), (cut_off, "PATIENCE", SOON)],
