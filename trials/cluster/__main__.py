@@ -49,6 +49,7 @@ from trials.ended import told as tell
 from trials.servers.clickhouse import NAME, Processes, clickhouse
 from trials.servers.zookeeper import ZooKeeper, zookeeper
 from trials.spoilt.clusters import SPOILT, is_noticed
+from trials.spoilt.losses import SPOILT_LOSSES
 from trials.spoilt.replicas import SPOILT_REPLICAS
 from upkeep.words import ROOT, program, words_with_program
 from whview.cluster import replicas
@@ -189,8 +190,10 @@ class Trial:
     def spoilt(self):
         """Spoilt scripts and clients."""
         left = self.on(2, lambda processes: [each.name for each in SPOILT if not is_noticed(each, processes.servers())])
+        left += self.on(2, lambda processes: [each.name for each in SPOILT_LOSSES if not is_noticed(each, processes, processes.restart)])
         self.wrong += [f"not noticed: {name}" for name in left]
-        return f"{len(SPOILT) - len(left)} of {len(SPOILT)} spoilt ones noticed"
+        count = len(SPOILT) + len(SPOILT_LOSSES)
+        return f"{count - len(left)} of {count} spoilt ones noticed"
 
     def kills(self):
         """Servers and clients that are killed."""

@@ -8,6 +8,7 @@ from tempfile import TemporaryDirectory
 from unittest.mock import patch
 
 from whview.cluster import backup, checking, keeping, making, nights
+from whview.cluster.command import changes_of
 from whview.cluster.keeping import Sweep
 from whview.cluster.reading import Session
 from whview.cluster.servers import Server
@@ -15,7 +16,7 @@ from whview.cluster.warehouse import Warehouse
 
 from trials.cluster.inputs import Folder, done, one_line
 from trials.cluster.scenarios import SHARES, KeepingSome, ends
-from trials.cluster.small_warehouse import AT_ONCE, Small
+from trials.cluster.small_warehouse import AT_ONCE, STRATEGY, Small
 from trials.servers.clickhouse import NAME
 
 NUMBERS = itertools.count()
@@ -75,6 +76,53 @@ def on_others(servers):
             backup.restore(warehouse, folder)
             wrong += goes_on(small, warehouse, f"on {number}")
     return wrong
+
+
+def caught_up(servers):
+    """What was restored on fewer servers catches up with nights and folds since by one night of what changed, a second time too, and goes on."""
+    small, wrong = with_nights(servers), []
+    with TemporaryDirectory() as path:
+        old = Folder(path, servers, small.database)
+        backup.backup(small.warehouse, old.path / "kept")
+        warehouse = made(small, servers[:1])
+        backup.restore(warehouse, old.path / "kept")
+        for number in range(2):
+            seq = small.versions.newest().seq
+            small.night({(2, 8): 1 - 2 * number, (7, 70 + number): 3}, {(3, "oak"): 1, (6, f'{number}"\n,\t'): 2})
+            keeping.fold(small.warehouse)
+            small.night({(6, 6): -1, (8, 80 + number): 1})
+            wrong += done(old.told("changes", "--version", seq, "--to", old.path / f"since{number}/changes"), "changes")
+            nights.night(warehouse, changes_of(warehouse, old.path / f"since{number}").rows, STRATEGY)
+            wrong += as_by(small, warehouse, f"caught up {number + 1} times")
+        wrong += one_line(old.told("changes", "--version", seq, "--to", old.path / "since0"), 1, "not empty")
+        wrong += one_line(old.told("changes", "--to", old.path / "other"), 2, "wants --version")
+        Sweep(small.warehouse, AT_ONCE).run()
+        wrong += one_line(old.told("changes", "--version", seq, "--to", old.path / "other"), 1, "is gone")
+    return wrong + goes_on(small, warehouse, "caught up")
+
+
+def as_by(small, warehouse, what):
+    """What a warehouse holds otherwise than the small one."""
+    kept, small.warehouse = small.warehouse, warehouse
+    try:
+        return small.differs(None, what)
+    finally:
+        small.warehouse = kept
+
+
+def changed_by_hand(servers):
+    """What changed is not told where rows were lost, and no file is left that a night would read."""
+    small = with_nights(servers)
+    seq = small.versions.newest().seq
+    small.night({(number, 200): 1 for number in range(1, 9)})
+    last, newest = small.servers[-1], small.versions.newest()
+    last.carried(f'ALTER TABLE "{small.database}"."a~{newest.generation}" DROP PARTITION {newest.slots[-1]}')
+    last.carried(f'INSERT INTO "{small.database}"."a~{newest.generation}" ("~c1", "~c2", "#", "~s") VALUES (1, 77, 1, {newest.slots[-1]})')
+    with TemporaryDirectory() as path:
+        folder = Folder(path, servers, small.database)
+        wrong = one_line(folder.told("changes", "--version", seq, "--to", folder.path / "since/changes"), 1, "a on", "other rows")
+        left = [each.name for each in (folder.path / "since/changes").iterdir() if each.name.endswith(".csv")]
+    return wrong + ([f"{left} are left"] if left else [])
 
 
 def beside_sweeps(servers):
@@ -164,4 +212,4 @@ def by_command(servers):
     return wrong
 
 
-BACKUPS = [on_as_many, on_others, beside_sweeps, spoilt, kept_back, by_command]
+BACKUPS = [on_as_many, on_others, caught_up, changed_by_hand, beside_sweeps, spoilt, kept_back, by_command]

@@ -1,8 +1,9 @@
 """What tools/bench measures of a cluster comes to its end, on facts that the servers make themselves."""
 
+from pathlib import Path
 from tempfile import TemporaryDirectory
 
-from upkeep.bench.clickhouse import SALES, Star
+from upkeep.bench.clickhouse import SALES, Star, client, loaded, sales_in
 from whview.cluster import checking, keeping
 from whview.cluster.reading import Session
 
@@ -12,6 +13,8 @@ FACTS, CHANGED = 2000, 100
 def measured(processes):
     """What is wrong with a star of few facts behind a night, views from scratch beside it, a fold and a read."""
     with TemporaryDirectory() as folder:
+        if client():
+            loaded(processes.all[0], Path(folder), sales_in(Path(folder) / "sales.csv", FACTS), FACTS, 0)
         return of_star(Star(processes, FACTS, folder))
 
 

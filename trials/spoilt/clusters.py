@@ -1,12 +1,13 @@
 """Scripts and clients that go against one rule each, and the scenario that has to notice it."""
 
 import json
+import sys
 from contextlib import ExitStack
 from dataclasses import replace
 from typing import NamedTuple
 from unittest.mock import patch
 
-from whview.cluster import generations, nights, servers
+from whview.cluster import generations, nights, servers, versions as of_versions
 from whview.cluster.carrying import Carrying, Refusal
 from whview.cluster.generations import Generations, generations_of
 from whview.cluster.keeping import Sweep
@@ -16,11 +17,13 @@ from whview.cluster.versions import Versions
 from whview.finding import Failure
 from whview.sql import slots
 from whview.sql.slots import Slot, Slots
+from whview.sql.tables import Tables
 from whview.sql.tokens import sql
 
-from trials.cluster import asleep, held as held_selects, put_aside, scenarios
+from trials.cluster import asleep, held as held_selects, memory, put_aside, scenarios
 from trials.cluster.scenarios import Losing
 from trials.cluster.waiting import read_beside_sweeps, waited
+from upkeep.words import ROOT
 
 
 class Spoilt(NamedTuple):
@@ -187,6 +190,45 @@ def dropped_at_once(versions, seq):
     versions.dropped("v", seq)
 
 
+def without_traces(scenario):
+    """A scenario whose databases go behind it: with columns of some names no server starts again."""
+
+    def done(on):
+        had = databases(on[0])
+        try:
+            return scenario(on)
+        finally:
+            for server in on:
+                for said in databases(server) - had:
+                    server.carried(f'DROP DATABASE "{said}"')
+
+    return done
+
+
+def databases(server):
+    return {said for said, in server.asked("SELECT name FROM system.databases")}
+
+
+# ---- what is sent, and what is asked for
+
+JUDGE, FILLING, COMP_SAID = Slots.judge, Slots.filling, Slots.comp
+
+
+def filled_each_time(script, v, sent=0):
+    """Rows are put in whatever stands there."""
+    made = FILLING(script, v, sent)
+    return made._replace(said=sql("{said} OR 1 = 1", said=made.said))
+
+
+def of_memory(instead):
+    """The command as a process of its own, in which something else stands for what goes a piece at a time."""
+    code = f"import sys; sys.path.insert(0, {str(ROOT / 'python')!r}); from whview.cluster import command, reading; {instead}; sys.exit(command.main(sys.argv[1:]))"
+    return [(memory, "COMMAND", [sys.executable, "-S", "-c", code])]
+
+
+LOADED = "command.plain_of = lambda *_: {}"
+READ = "reading.Session.streamed = lambda session, v: iter([([*map(str, row)], count) for row, count in session.read(v)])"
+
 # How long what is spoilt is waited for.
 SOON = 30
 
@@ -240,6 +282,15 @@ SPOILT = [
     Spoilt("tables put aside that are read", [(Generations, "is_read", lambda *_: False)], awaited_briefly(put_aside.tables_that_are_read)),
     Spoilt("no look at what Comps made", [(Carrying, "judge_made", lambda *_: None)], scenarios.comps_kept_back),
     Spoilt("versions dropped as they are read", [(Versions, "taken_away", dropped_at_once)], read_beside_sweeps),
+    Spoilt("columns by the user's names", [(Slots, "users", Tables.users)], without_traces(scenarios.names_that_are_words)),
+    Spoilt("Comps put in whatever stands there", [(Slots, "comp", lambda script, step, _=None: COMP_SAID(script, step))], scenarios.sent_twice),
+    Spoilt("changes put in whatever stands there", [(Slots, "filling", filled_each_time)], scenarios.sent_twice),
+    Spoilt("no look at what was sent", [(Carrying, "judge_sent", lambda *_: None)], scenarios.kept_back),
+    Spoilt("a fold into the tables of before", [(of_versions, "OWN_TABLES", ())], put_aside.nothing_empty),
+    Spoilt("a look at all rows that change", [(Slots, "judge", lambda script, step, _=None: JUDGE(script, step))], scenarios.judged_by_key),
+    Spoilt("a connection for each statement", [(Server, "idle_connection", lambda _: None)], scenarios.connections_stay),
+    Spoilt("a table that is loaded from memory", of_memory(LOADED), memory.in_little_memory),
+    Spoilt("a view that is read into memory", of_memory(READ), memory.in_little_memory),
 ]
 
 

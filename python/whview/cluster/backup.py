@@ -80,8 +80,7 @@ def pinned(warehouse: Warehouse, version: Version) -> Iterator[None]:
 
 def backup(warehouse: Warehouse, folder: Path, seq: int | None = None) -> Manifest:
     """Writes a version into a folder that is not there yet, or is empty."""
-    if folder.exists() and (not folder.is_dir() or any(folder.iterdir())):
-        raise Failure(REFUSED, f"whview cluster: {folder} is there already, and not empty")
+    judge_free(folder)
     session = Session(warehouse, seq)
     if session.version.stage == Stage.CREATED:
         raise Failure(REFUSED, f"whview cluster: version {session.version.seq} has no tables yet: there is nothing to keep")
@@ -94,6 +93,12 @@ def backup(warehouse: Warehouse, folder: Path, seq: int | None = None) -> Manife
         session.end()
     end(folder, manifest)
     return manifest
+
+
+def judge_free(folder: Path) -> None:
+    """Refuses a folder that has something."""
+    if folder.exists() and (not folder.is_dir() or any(folder.iterdir())):
+        raise Failure(REFUSED, f"whview cluster: {folder} is there already, and not empty")
 
 
 def end(folder: Path, manifest: Manifest) -> None:

@@ -27,7 +27,7 @@ from ..folder.inputs import CHANGES, FORMS, TABLE, by_view, entries, stranger
 from ..folder.records import Changes, Records
 from ..sql.tokens import Unfit
 from ..status import SIGNALLED
-from . import backup, checking, keeping, making, many, moving, nights, reading, recasting, repairing, status_of, status_page
+from . import backup, checking, keeping, making, many, moving, nights, reading, recasting, repairing, since, status_of, status_page
 from .servers import PATIENCE, Key, Lost, Server, Told, context
 from .status import BAD_INPUT, BAD_WORDS, DONE, FAILED, REFUSED
 from .streaming import Plain, plain
@@ -67,6 +67,7 @@ COMMANDS = {
     "recast": "makes a version by the catalogue as it is now, with views that come, go or are defined anew",
     "backup": "copies a version into a folder",
     "restore": "puts a backup into a warehouse that was created, on as many servers or on others",
+    "changes": "writes what base tables changed since a version, as a night's changes",
     "unpin": "lets sweeps take versions away that a backup came to no end with",
     "readdress": "has the servers keep the addresses that are said, where they have others now",
     "config": "prints what each server's configuration has to say of the others",
@@ -83,17 +84,17 @@ OPTIONS: dict[str, dict[str, Any]] = {
     "--https": {"action": "store_true", "help": "asks by HTTPS"},
     "--ca": {"type": Path, "metavar": "FILE", "help": "with --https: whom to trust"},
     "--seconds": {"type": int, "default": PATIENCE, "metavar": "N", "help": "how long an answer may take (%(default)s)"},
-    "--version": {"type": int, "metavar": "N", "help": "this version; without it the newest"},
+    "--version": {"type": int, "metavar": "N", "help": "this version; without it, which `changes` wants, the newest"},
     "--keep": {"metavar": "TIME", "help": "how long versions stay: 90s, 10m, 8h, 2d"},
     "--native": {"type": int, "metavar": "PORT", "help": "by which port servers speak with each other; without it 9000, or 9440 with --https"},
-    "--to": {"type": Path, "metavar": "PATH", "help": "the folder of the backup, which is not there yet"},
+    "--to": {"type": Path, "metavar": "PATH", "help": "the folder that is written, which is not there yet, or is empty"},
     "--from": {"type": Path, "dest": "source", "metavar": "PATH", "help": "the folder of the backup"},
     "--format": {"metavar": "KIND", "help": "text, for people, or json, for machines; without it text"},
     "--again": {"action": "store_true", "help": "also where the changes are in the newest version already"},
 }
 OF = {
-    "--version": ("read", "check", "backup"), "--keep": ("sweep",), "--again": ("night",), "--native": ("config",), "--to": ("backup",),
-    "--from": ("restore",), "--replicas": ("create", "config"), "--format": ("status",),
+    "--version": ("read", "check", "backup", "changes"), "--keep": ("sweep",), "--again": ("night",), "--native": ("config",),
+    "--to": ("backup", "changes"), "--from": ("restore",), "--replicas": ("create", "config"), "--format": ("status",),
 }  # fmt: skip
 # What the first server alone is asked for; of a read that holds where the view is not shared out.
 OF_FIRST = ("versions", "give-up", "read", "status", "unpin")
@@ -187,6 +188,8 @@ def judge_options(words: Namespace) -> None:
             refused_words(f"{option} goes with {' and '.join(OF[option])}")
         if value is None and words.command in OF[option] and option in ("--to", "--from"):
             refused_words(f"{words.command} wants {option} PATH")
+    if words.command == "changes" and words.version is None:
+        refused_words("changes wants --version N, since which they are")
     if words.command == "sweep" and not (words.keep and TIME.fullmatch(words.keep)):
         refused_words(f"sweep wants --keep TIME, such as 90s, 10m, 8h or 2d{', and not ' + repr(words.keep) if words.keep else ''}")
     if words.format is not None and words.format not in STATUS_FORMATS:
@@ -428,6 +431,11 @@ def restore(words: Namespace, warehouse: Warehouse) -> int:
     return told(backup.restore(warehouse, words.source))
 
 
+def changes(words: Namespace, warehouse: Warehouse) -> int:
+    print(f"changes from version {words.version} to {since.changes(warehouse, words.to, words.version).seq} in {words.to}")
+    return DONE
+
+
 def unpin(words: Namespace, warehouse: Warehouse) -> int:
     pins = warehouse.versions.pins()
     for each in pins:
@@ -480,7 +488,7 @@ def read(words: Namespace, warehouse: Warehouse) -> int:
 CARRIED: dict[str, Callable[[Namespace, Warehouse], int]] = {
     "create": create, "load": load, "open": open_views, "night": night, "give-up": give_up, "versions": versions, "read": read,
     "fold": fold, "sweep": sweep, "status": status, "check": check, "repair": repair, "recast": recast, "backup": keep,
-    "restore": restore, "unpin": unpin, "readdress": readdress, "config": config,
+    "restore": restore, "changes": changes, "unpin": unpin, "readdress": readdress, "config": config,
 }  # fmt: skip
 
 

@@ -22,6 +22,8 @@ if TYPE_CHECKING:
     from .warehouse import Warehouse
 
 
+# What puts files into a folder, where nothing may be left of a first try.
+OF_FOLDERS = ("backup", "changes")
 # What ZooKeeper alone is asked for, by any server.
 OF_ZOOKEEPER = ("versions", "give-up", "unpin", "status")
 
@@ -54,8 +56,7 @@ def carried_out(replicas: Replicas, command: str, do: Callable[[Warehouse], int]
         return do(replicas.new())
     if command in OF_ZOOKEEPER:
         return replicas.tried(do, replicas.answering_any)
-    if command == "backup":
-        # What was cut off lies in its folder, into which no other one is put.
+    if command in OF_FOLDERS:
         return do(replicas.chosen(seq))
     return replicas.tried(do, lambda: replicas.chosen(seq, command != "recast"))
 

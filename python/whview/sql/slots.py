@@ -461,6 +461,16 @@ class Slots(Combined):
         shown = self.read_by_all(v, self.before, sql("IN")) if only_reads else self.shown(v, self.rows_in(v, self.before, self.whole(v, self.before)))
         return Statement(Where.ONE, f"read {self.views[v].name}", sql("{shown} ORDER BY {users}", shown=shown, users=joined(self.users(v))))
 
+    def between(self, v: int, come: Sql, gone: Sql) -> Statement:
+        """What the rows of a base view in some slots add up to, less those in others: each row that is left over, with its count behind it."""
+        columns, slots = self.users(v), sql("{come}, {gone}", come=come, gone=gone)
+        said = sql(
+            "SELECT {columns}, sum(if({slot} IN ({gone}), -{count}, {count})) AS {n} FROM {rows} {grouped} HAVING {n} <> 0 ORDER BY {columns}",
+            columns=joined(columns), slot=SLOT, gone=gone, count=COUNT, n=alias("n"), rows=self.rows_in(v, slots, self.whole(v, slots)),
+            grouped=self.grouped(columns),
+        )
+        return Statement(Where.ONE, f"changes of {self.views[v].name}", said)
+
     # ---- a night's steps
 
     def filling(self, v: int, sent: int = 0) -> Statement:

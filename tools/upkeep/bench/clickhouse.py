@@ -6,9 +6,13 @@ besides. A night is the command, from its start to its end, a process of its own
 seconds, by the clock and, in brackets, of the processor's, the servers' and the client's together: of a night of one changed fact, of the
 nights, of the views from scratch, and of a read of the summary; and what the two nights take of the views from scratch. No parts are put
 together meanwhile, and no views go. Three servers on one machine show no speed-up: they share its processors.
+
+Then the same numbers of facts are loaded from a file, and read, on one server: medians of seconds, and how many MB the command takes at its
+highest; and beside it the engine's own client, which puts the same file into a table of the same columns.
 """
 
 import os
+import shutil
 import statistics
 import subprocess
 import sys
@@ -19,10 +23,13 @@ from tempfile import TemporaryDirectory
 
 from trials.drawn import star
 from trials.servers.clickhouse import NAME, Processes, clickhouse
+from trials.servers.installed import install
+from upkeep.bench import run
 from upkeep.words import ROOT
 from whview.catalogue.parts import line
 from whview.cluster import keeping, making, nights, reading, standing
 from whview.cluster.carrying import Carrying
+from whview.cluster.servers import Server
 from whview.cluster.versions import Purpose, Stage
 from whview.cluster.warehouse import Warehouse
 from whview.sql.catalogue import Catalogue
@@ -49,6 +56,15 @@ def sale(number):
     return number, number % star.SHOPS, number // star.SHOPS % star.PRODUCTS, number % 5 + 1
 
 
+def product(number, more=0):
+    """A product, whose price is more by so much."""
+    return number, star.KINDS[number % len(star.KINDS)], star.price(number) + more
+
+
+SHOP_ROWS = [(shop, star.region(shop)) for shop in range(star.SHOPS)]
+PRODUCT_ROWS = [product(number) for number in range(star.PRODUCTS)]
+
+
 class Folder:
     """The star's folder, and the command over it as somebody types it."""
 
@@ -58,17 +74,21 @@ class Folder:
         for name, text in (("catalogue.toml", star.CATALOGUE), ("strategy.txt", star.STRATEGY)):
             (self.path / name).write_text(text.partition("\n")[2])
         (self.path / "changes").mkdir()
+        (self.path / "data").mkdir()
 
     def put(self, view, rows):
         """The changes of a view, in its file."""
         lines = [line(["#", *(column for column, _ in view.columns)]), *(line([count, *row]) for row, count in rows.items())]
         (self.path / "changes" / f"{view.name}.csv").write_text("".join(lines))
 
+    def words(self, command, *more):
+        """A command as it is typed."""
+        return [sys.executable, "-S", ROOT / "python/whview/__main__.py", "cluster", command, self.path, *more, *self.servers, *self.more]
+
     def told(self, command):
         """Runs a command to its end, and ends everything where it fails. What Python compiles is kept, as where it is installed."""
-        words = [sys.executable, "-S", ROOT / "python/whview/__main__.py", "cluster", command, self.path, *self.servers, *self.more]
         without = {name: value for name, value in os.environ.items() if name != "PYTHONDONTWRITEBYTECODE"}
-        ran = subprocess.run(words, capture_output=True, text=True, env={**without, "PYTHONPYCACHEPREFIX": str(ROOT / "out/pycache")})
+        ran = subprocess.run(self.words(command), capture_output=True, text=True, env={**without, "PYTHONPYCACHEPREFIX": str(ROOT / "out/pycache")})
         if ran.returncode:
             sys.exit(f"{command}: {ran.stdout}{ran.stderr}")
 
@@ -92,9 +112,7 @@ class Star:
         warehouse, versions = self.warehouse, self.warehouse.versions
         base = versions.newest()
         slot = nights.attempted(warehouse, base, Purpose.NIGHT)
-        carrying = Carrying(warehouse, base, slot)
-        shops = [((shop, star.region(shop)), 1) for shop in range(star.SHOPS)]
-        products = [(self.product(number, 0), 1) for number in range(star.PRODUCTS)]
+        carrying, shops, products = Carrying(warehouse, base, slot), [(row, 1) for row in SHOP_ROWS], [(row, 1) for row in PRODUCT_ROWS]
         carrying.filled(SHOPS, shops)
         carrying.filled(PRODUCTS, products)
         carrying.judge_sent()
@@ -111,9 +129,6 @@ class Star:
         rows = sql(FACTS, slot=number(slot.number), count=number(facts))
         return sql("INSERT INTO {table} ({columns}) {rows}", table=table, columns=columns, rows=rows)
 
-    def product(self, number, more):
-        return number, star.KINDS[number % len(star.KINDS)], star.price(number) + more
-
     def changes(self, count, with_others):
         """So many changed facts, of which half leave; and perhaps a shop and two prices."""
         half = count // 2
@@ -124,7 +139,7 @@ class Star:
             old, new, self.moved = self.moved, self.moved + 1, self.moved + 1
             shops.update({(7, star.region(7 + old)): -1, (7, star.region(7 + new)): 1})
             for number in (3, 41):
-                products.update({self.product(number, old): -1, self.product(number, new): 1})
+                products.update({product(number, old): -1, product(number, new): 1})
         return {SALES: sales, SHOPS: Counter({r: n for r, n in shops.items() if n}), PRODUCTS: Counter({r: n for r, n in products.items() if n})}
 
     def timed(self, do):
@@ -193,6 +208,7 @@ def measure(asked):
         for facts in (int(asked.facts * scale) for scale in SCALES):
             with Processes(program, servers) as processes, TemporaryDirectory() as folder:
                 measure_star(Star(processes, facts, folder), asked.rounds, servers, facts)
+    measure_loads(asked, program)
 
 
 def measure_star(stars, rounds, servers, facts):
@@ -202,3 +218,63 @@ def measure_star(stars, rounds, servers, facts):
             times = measured(stars, rounds, slots, count)
             shown = [f"{wall:.2f} ({used:.2f})" for wall, used in times]
             print(servers, facts, slots, count, *shown, ratio(times[1], times[3]), ratio(times[2], times[3]), sep="  ", flush=True)
+
+
+# ---- a table from a file, and out again
+
+CLIENT = "clickhouse-client"
+BESIDE = "CREATE TABLE beside{number} (id Int64, shop Int64, product Int64, pieces Int64) ENGINE = MergeTree ORDER BY id"
+
+
+def client():
+    """The engine's own client, which is installed where it is missing and that can be done; else None."""
+    install(CLIENT, lambda: shutil.which(CLIENT))
+    return shutil.which(CLIENT)
+
+
+def measure_loads(asked, program):
+    """Prints a line for each number of facts."""
+    if not client():
+        print(f"cluster: there is no {CLIENT} here and it could not be installed")
+        return
+    print("facts  load  MB  the client  MB  of that  read  MB")
+    for facts in (int(asked.facts * scale) for scale in SCALES):
+        with Processes(program, 1) as processes, TemporaryDirectory() as path:
+            file = sales_in(Path(path) / "sales.csv", facts)
+            times = [loaded(processes.all[0], Path(path), file, facts, number) for number in range(asked.rounds)]
+        load, other, read = ([statistics.median(each) for each in zip(*column)] for column in zip(*times))
+        shown = [f"{seconds:.2f}  {most:.0f}" for seconds, most in (load, other)]
+        print(facts, *shown, f"{load[0] / other[0]:.2f}", f"{read[0]:.2f}  {read[1]:.0f}", sep="  ", flush=True)
+
+
+def sales_in(file, facts):
+    """So many facts as a file."""
+    with file.open("w") as opened:
+        opened.write(line(["id", "shop", "product", "pieces"]))
+        opened.writelines(line(sale(number)) for number in range(facts))
+    return file
+
+
+def loaded(process, path, file, facts, number):
+    """What it takes to load a file, what the engine's own client takes, and what it takes to read it."""
+    server = Server(process.address)
+    (path / str(number)).mkdir()
+    folder = Folder(path / str(number), [process.address], f"loaded{number}")
+    (folder.path / "data/sales.csv").symlink_to(file)
+    for name, columns, rows in (("shops", ["shop", "region"], SHOP_ROWS), ("products", ["product", "kind", "price"], PRODUCT_ROWS)):
+        (folder.path / f"data/{name}.csv").write_text("".join(map(line, [columns, *rows])))
+    folder.told("create")
+    load = ended(folder.words("load"))
+    server.carried(BESIDE.format(number=number))
+    into = f"INSERT INTO beside{number} FORMAT CSVWithNames"
+    other = ended([CLIENT, "--host", "127.0.0.1", "--port", process.tcp, "--query", into], file)
+    for table in (f'loaded{number}."sales~0"', f"beside{number}"):
+        if server.asked(f"SELECT count() FROM {table}") != [[str(facts)]]:
+            sys.exit(f"tools/bench: {table} has not all rows of the file")
+    return load, other, ended(folder.words("read", "sales"))
+
+
+def ended(words, given=os.devnull):
+    """How long a command takes to its end, and how many MB at its highest; what it prints goes nowhere."""
+    ran = run(["sh", "-c", 'exec "$@" >/dev/null', "sh", *words], given)
+    return ran.seconds, ran.kilobytes / 1024

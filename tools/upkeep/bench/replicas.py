@@ -14,7 +14,7 @@ from trials.cluster.replicated import COPIES, struck_at
 from trials.drawn import star
 from trials.servers.clickhouse import NAME, Processes, clickhouse
 from trials.servers.zookeeper import ZooKeeper, zookeeper
-from upkeep.bench.clickhouse import PRODUCTS, SALES, SHOPS, Star, sale
+from upkeep.bench.clickhouse import PRODUCT_ROWS, PRODUCTS, SALES, SHOP_ROWS, SHOPS, Star, sale
 from whview.cluster import making, nights
 from whview.cluster.replicas import Replicas
 from whview.cluster.warehouse import Warehouse
@@ -34,8 +34,8 @@ class Shards(Star):
         making.create(self.replicas().new() if copies > 1 else self.plain())
         tables = {
             SALES: Counter({sale(number): 1 for number in range(facts)}),
-            SHOPS: Counter({(shop, star.region(shop)): 1 for shop in range(star.SHOPS)}),
-            PRODUCTS: Counter({self.product(number, 0): 1 for number in range(star.PRODUCTS)}),
+            SHOPS: Counter(SHOP_ROWS),
+            PRODUCTS: Counter(PRODUCT_ROWS),
         }
         self.done(lambda warehouse: making.load(warehouse, tables))
         self.done(making.open_views)
