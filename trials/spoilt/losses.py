@@ -27,7 +27,8 @@ def learnt_as_others(server):
     """Who may only read says settings too."""
     LEARN(server)
     if server.only_reads:
-        server.settings = {"join_use_nulls": servers.WANTED["join_use_nulls"]}
+        there = {name for name, in server.asked("SELECT name FROM system.settings")}
+        server.settings = {name: value for name, value in servers.WANTED.items() if name in there}
 
 
 UNASKED = [(standing, "judge", lambda *_: None)]
