@@ -1,5 +1,6 @@
 """What `whview cluster` does without a server: words, what goes over, and answers that are no answers."""
 
+import itertools
 import os
 import re
 import subprocess
@@ -20,6 +21,7 @@ from whview.cluster.making import durable
 from whview.cluster.servers import Lost, Server, Told
 from whview.cluster.status_of import OfServer, Status
 from whview.cluster.status_page import age, page
+from whview.cluster.streaming import CELLS, are_numbers, lines_of, plain, record_of
 from whview.cluster.versions import REMEMBERED, Stage, Version, stage_of
 from whview.finding import Failure
 from whview.sql.catalogue import read
@@ -124,6 +126,38 @@ def test_a_table_is_as_durable_as_its_server_can_have_it(slots):
 
 def test_rows_go_over_with_escapes():
     assert tsv([((1, "a\tb\\c\nd\0"), -2)]) == b"1\ta\\tb\\\\c\\nd\\0\t-2\n"
+
+
+def test_lines_of_numbers_are_those_that_an_expression_says():
+    cells = ["0", "1", "-1", "10", "-10", "9" * 18, "-" + "9" * 18, "9" * 19, "", "-", "-0", "00", "01", "-01", "--1", "1-", "1-1", "+1", " 1", "1 ", "1.5", "a", "\u0661", "1\r"]
+    for width, expression in ((1, CELLS["int"]), (2, CELLS["int"] + b"," + CELLS["int"])):
+        lines = re.compile(b"(?:" + expression + b"\n)*")
+        for several in itertools.product(cells, repeat=2):
+            for said in (",".join(several), ",".join([*several, "5"]), "\n".join(several), ",".join(several) + "\n" + ",".join(several)):
+                for piece in (said.encode() + b"\n", said.encode()):
+                    assert are_numbers(width, piece) == bool(lines.fullmatch(piece)), (width, piece)
+
+
+def test_a_file_that_is_written_into_meanwhile_is_told(catalogue):
+    with TemporaryDirectory() as path:
+        file, view = Path(path) / "lines.csv", catalogue.views[catalogue.names["lines"]]
+        header, row = ",".join(name for name, _ in view.columns), ",".join("7" for _ in view.columns)
+        file.write_text(f"{header}\n{row}\n{row}\n")
+        found = plain(file, view)
+        assert found.rows == 2 and [batch.counted for batch in found.batches()] == [2]
+        for said in (f"{row}\n{row.replace('7', '8')}\n", f"{row}\n", f"{row}\n{row}\n{row}\n", ""):
+            file.write_text(f"{header}\n{said}")
+            with pytest.raises(Failure, match="somebody writes"):
+                list(found.batches())
+
+
+def test_an_answer_becomes_records_as_it_comes():
+    blocks = [b"1\ta\t2\n3\t", b"b,\\t\\n\"\t1\n", b"4\tc\t", b"5"]
+    assert list(lines_of(blocks)) == [b"1\ta\t2\n", b'3\tb,\\t\\n"\t1\n', b"4\tc\t5"]
+    assert record_of(b"1\ta\t2\n", 2, False) == ("2,1,a\n", 2)
+    assert record_of(b'3\tb,\\t\\n"\t1\n', 2, False) == ('1,3,"b,\t\n"""\n', 1)
+    assert record_of(b"1\ta\t2\n", 3, True) == ("1,1,a,2\n", 1)
+    assert record_of(b"1\ta\n", 2, False) is None
 
 
 def test_what_is_no_answer_is_no_rows():

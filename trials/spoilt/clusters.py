@@ -227,7 +227,7 @@ def of_memory(instead):
 
 
 LOADED = "command.plain_of = lambda *_: {}"
-READ = "reading.Session.streamed = lambda session, v: iter([([*map(str, row)], count) for row, count in session.read(v)])"
+READ = "reading.Session.streamed = lambda session, v: iter([','.join(map(str, [count, *row])) + '\\n' for row, count in session.read(v)])"
 
 # How long what is spoilt is waited for.
 SOON = 30

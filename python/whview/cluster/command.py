@@ -479,7 +479,7 @@ def read(words: Namespace, warehouse: Warehouse) -> int:
         refused_words(f"there is no view {words.view!r}{nearest(words.view, warehouse.catalogue.names)}")
     with TemporaryFile("w+", encoding="utf-8", newline="") as kept:
         kept.write(line(["#", *(name for name, _ in warehouse.catalogue.views[v].columns)]))
-        kept.writelines(line([count, *cells]) for cells, count in reading.Session(warehouse, words.version).streamed(v))
+        kept.writelines(reading.Session(warehouse, words.version).streamed(v))
         kept.seek(0)
         shutil.copyfileobj(kept, sys.stdout)
     return DONE

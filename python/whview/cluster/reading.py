@@ -8,7 +8,7 @@ from ..finding import Failure
 from . import standing
 from .servers import Lost, Servers
 from .status import REFUSED
-from .streaming import cells_of
+from .streaming import record_of
 
 if TYPE_CHECKING:
     from collections.abc import Iterator
@@ -70,18 +70,17 @@ class Session:
         self.judge(v, sum(count for _, count in rows))
         return rows
 
-    def streamed(self, v: int) -> Iterator[tuple[list[str], int]]:
-        """The same, row by row as they come, with the cells as texts. It ends with an error where they are not all of this version."""
+    def streamed(self, v: int) -> Iterator[str]:
+        """The same, row by row as they come, as records of a file. It ends with an error where they are not all of this version."""
         script, has = self.warehouse.script(self.version.slots), 0
         self.of_all |= script.is_shared(v)
         width, is_summary = len(script.kinds(v)), script.shape.is_summary(v)
         for said in self.warehouse.servers.first.lines(self.warehouse.written(script.contents(v).said)):
-            cells = cells_of(said)
-            if len(cells) != width + (not is_summary):
+            found = record_of(said, width, is_summary)
+            if found is None:
                 raise Lost(f"{self.warehouse.servers.first}: an answer that is not whole: {said[-120:].decode(errors='replace')!r}")
-            count = 1 if is_summary else int(cells.pop())
-            has += count
-            yield cells, count
+            has += found[1]
+            yield found[0]
         self.judge(v, has)
 
     def judge(self, v: int, has: int) -> None:

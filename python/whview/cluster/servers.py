@@ -24,6 +24,7 @@ from ..finding import Failure
 from ..sql.slots import Where
 from . import releases
 from .status import REFUSED
+from .streaming import lines_of
 
 OVERFLOWS = "read read_leaf group_by sort result timeout timeout_leaf set join transfer distinct".split()
 # What a statement rests on, whatever a profile says; each is sent where the server has it.
@@ -76,6 +77,8 @@ CODE = re.compile(rb"Code: (\d+)[.,] (?:e\.displayText\(\) = )?(?:DB::Exception:
 # a test raised.
 TAKEN, GONE, NONE_THERE, RAISED = 57, (60, 218), 36, 395
 
+# So many bytes of an answer are looked at, at a time.
+BLOCK = 2**18
 # For so many seconds a connection is used again; servers keep one for 3 at least.
 YOUNG = 1
 # How long a server may take to be reached, and then to answer a statement.
@@ -190,7 +193,7 @@ class Server:
             answer = self.answer(connection, f"{said} FORMAT TabSeparated".encode(), {"wait_end_of_query": 1, **self.settings}, self.headers())
             if answer.status != 200:
                 self.judged(answer.status, answer.read())
-            yield from answer
+            yield from lines_of(iter(lambda: answer.read(BLOCK), b""))
         except (OSError, HTTPException, UnicodeError) as error:
             raise Lost(f"{self}: no whole answer came ({error or type(error).__name__})") from error
         finally:

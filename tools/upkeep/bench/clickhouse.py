@@ -8,7 +8,7 @@ nights, of the views from scratch, and of a read of the summary; and what the tw
 together meanwhile, and no views go. Three servers on one machine show no speed-up: they share its processors.
 
 Then the same numbers of facts are loaded from a file, and read, on one server: medians of seconds, and how many MB the command takes at its
-highest; and beside it the engine's own client, which puts the same file into a table of the same columns.
+highest; and beside it the engine's own client, which puts the same file into a table of the same columns, in the same order.
 """
 
 import os
@@ -223,7 +223,10 @@ def measure_star(stars, rounds, servers, facts):
 # ---- a table from a file, and out again
 
 CLIENT = "clickhouse-client"
-BESIDE = "CREATE TABLE beside{number} (id Int64, shop Int64, product Int64, pieces Int64) ENGINE = MergeTree ORDER BY id"
+BESIDE = (
+    'CREATE TABLE beside{number} (id Int64, shop Int64, product Int64, pieces Int64, "#" Int64 DEFAULT 1, "~s" UInt32 DEFAULT 1)'
+    ' ENGINE = SummingMergeTree(("#")) PARTITION BY "~s" ORDER BY (shop, product, id, pieces)'
+)
 
 
 def client():
@@ -266,7 +269,7 @@ def loaded(process, path, file, facts, number):
     folder.told("create")
     load = ended(folder.words("load"))
     server.carried(BESIDE.format(number=number))
-    into = f"INSERT INTO beside{number} FORMAT CSVWithNames"
+    into = f"INSERT INTO beside{number} (id, shop, product, pieces) FORMAT CSVWithNames"
     other = ended([CLIENT, "--host", "127.0.0.1", "--port", process.tcp, "--query", into], file)
     for table in (f'loaded{number}."sales~0"', f"beside{number}"):
         if server.asked(f"SELECT count() FROM {table}") != [[str(facts)]]:
