@@ -250,7 +250,9 @@ def who_may_only_read(processes):
         wrong += one_line(folder.told("fold", more=["--user", "reader"]), 4, "readonly")
     reader = Server(processes.all[0].address, Key("reader", ""))
     rows = reader.asked(f'SELECT sum("#") FROM "{small.database}"."j~now"')
-    return wrong + ([] if rows == [[str(sum(small.contents()[J].values()))]] else [f"j~now has {rows}"])
+    wrong += [] if rows == [[str(sum(small.contents()[J].values()))]] else [f"j~now has {rows}"]
+    newest = reader.asked(f'SELECT max(seq) FROM "{small.database}"."~versions"')
+    return wrong + ([] if newest == [[str(small.versions.newest().seq)]] else [f"~versions has {newest} as the newest"])
 
 
 def with_readers(processes):
