@@ -101,6 +101,17 @@ def chosen(is_unproved: bool = False) -> Chosen:
     return Chosen(found, PROVED)
 
 
+def ready(named: Path | None = None, is_unproved: bool = False) -> Chosen:
+    """The program that is named, or taken where none is, if it is there: nothing is built."""
+    word = UNPROVED if is_unproved else setting()
+    if named or word not in (PROVED, UNPROVED):
+        return Chosen(named or Path(word).resolve(), "named")
+    found = there(word)
+    if found is None:
+        raise Failure(NO_ANSWER, NOT_THERE if word == PROVED else "the program without proofs is not there; `whview use unproved` builds it")
+    return Chosen(found, word)
+
+
 def own(is_unproved: bool = False) -> Path:
     """The path of the program that is taken where none is named. One that is not the proved one is told."""
     found = chosen(is_unproved)

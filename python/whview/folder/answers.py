@@ -26,6 +26,7 @@ from .choosing import Choice, choice_of
 from .forms import Form
 from .held import Held
 from .jobs import Job
+from .memory import Memory
 from .pages import DEADLINE, FORMS, Page, Unfit, bytes_of, page_of
 from .reading import Far, Missing, Tables, VersionKey, key_of, version_tables, whole_number
 from .room import Crowded, Room
@@ -190,6 +191,8 @@ class Answers:
         self.kept: dict[tuple[int, VersionKey], Tables] = {}
         self.room = Room()
         self.scans = Scans(self.room)
+        # What a program that stays has of the newest versions, where there is one.
+        self.memory: Memory | None = None
 
     def answer(self, request: Request) -> Answer:
         """The answer to a request, whatever it is."""
@@ -330,12 +333,22 @@ class Answers:
         with self.held(request, fields) as held, refusing():
             table = self.tables(held).table(name)
             choice = choice_of(table, fields.where, fields.one("order"), fields.one("columns"), after)
-            page = self.made(choice, form, limit, held) or self.searched(request, fields, choice, form, limit, held)
+            page = self.remembered(choice, form, limit, held) or self.made(choice, form, limit, held)
+            page = page or self.searched(request, fields, choice, form, limit, held)
         headers = {"X-Version": str(held.number)}
         if page.following is not None:
             query = fields.query_behind(held.number, page.following, limit)
             headers |= {"X-Next": str(page.following), "Link": f'</{name}?{query}>; rel="next"'}
         return Answer(HTTPStatus.OK, KINDS[form], page.body, headers, len(page.body))
+
+    def remembered(self, choice: Choice, form: Form, limit: int, held: Held) -> Page | None:
+        """The page of rows that a program has in memory; None of others."""
+        if self.memory is None or not self.memory.has(held, choice):
+            return None
+        with self.room.share(bytes_of(limit) + MORE) as share, self.places:
+            page = self.memory.page(held, choice, form, limit)
+            share.kept = len(page.body) if page else 0
+            return page
 
     def made(self, choice: Choice, form: Form, limit: int, held: Held) -> Page | None:
         """The page of rows that are soon found; None of others."""
@@ -411,8 +424,10 @@ class Answers:
         return Answer(HTTPStatus.OK, HTML, body, {}, len(body))
 
     def close(self) -> None:
-        """Ends the searches."""
+        """Ends the searches, and the program that stays."""
         self.scans.close()
+        if self.memory:
+            self.memory.close()
 
 
 def cookie(name: str, seconds: int) -> dict[str, str]:

@@ -42,6 +42,7 @@ FLAGS = {
     "--quarantine": ("night",),
     "--lenient": ("lint",),
     "--sql": ("init",),
+    "--from-files": ("serve",),
 }
 # The numbers that the program takes behind an option, from the least to the greatest.
 RANGES = {"--workers": (1, 16), "--readers": (0, 16), "--page-keys": (1, 256), "--budget": (1, 2**63 - 1)}
@@ -49,7 +50,7 @@ RANGES |= dict.fromkeys(("--comp-cost", "--inst-cost"), (1, 1_000_000))
 # The options with a value that a command takes itself, each as often as it stands.
 OPTIONS = {
     "read": ("--version", "--where", "--order", "--columns", "--limit", "--format", "--output"),
-    "serve": ("--port", "--address", "--promise"),
+    "serve": ("--port", "--address", "--promise", "--versions"),
     "night": ("--accept", "--drop"),
     "log": ("--format",),
     "put": ("--batch", "--as"),
@@ -148,6 +149,11 @@ class Words:
     def lenient(self) -> bool:
         """Whether keys that the program does not look at are warnings."""
         return "--lenient" in self.flags
+
+    @property
+    def from_files(self) -> bool:
+        """Whether pages are read from files alone, and no program stays."""
+        return "--from-files" in self.flags
 
     @property
     def is_sql(self) -> bool:

@@ -14,7 +14,7 @@ A folder is a warehouse: its next night, and what is wrong with it.
     whview folder report FOLDER [VERSION | new]
     whview folder read FOLDER VIEW [--version N] [--where COLUMN=VALUE] [--order COLUMN] [--columns A,B] [--limit N] [--format KIND]
     whview folder sql FOLDER [QUERY] [--version N] [--format KIND]
-    whview folder serve FOLDER [--port PORT] [--address ADDRESS] [--promise SECONDS]
+    whview folder serve FOLDER [--port PORT] [--address ADDRESS] [--promise SECONDS] [--versions N | --from-files]
     whview folder log FOLDER [--format text | --format json]
     whview folder verify FOLDER [VERSION]
     whview folder rollback FOLDER VERSION [--adopt]
@@ -36,7 +36,7 @@ written, 6 somebody else is at work in the folder, 70 the program gave no answer
 WORDS = {"diff": "OLD NEW", "unpack": "FOLDER < ANSWER", "init": "FOLDER FILES..", "read": "FOLDER VIEW", "report": "FOLDER [VERSION | new]"}
 WORDS |= {"verify": "FOLDER [VERSION]", "rollback": "FOLDER VERSION", "sql": "FOLDER [QUERY]"}
 WORDS |= {"put": "FOLDER FILES..", "backup": "FOLDER TO", "restore": "BACKUP FOLDER"}
-WITHOUT_PROGRAM: tuple[str, ...] = ("lint", "pack", "unpack", "diff", "init", "read", "serve", "sql", "verify", "rollback", "log")
+WITHOUT_PROGRAM: tuple[str, ...] = ("lint", "pack", "unpack", "diff", "init", "read", "sql", "verify", "rollback", "log")
 WITHOUT_PROGRAM += ("put", "backup", "restore")
 OPTIONS = [
     ("--commit", ("night",), "keeps the night: takes the changes and makes a version"),
@@ -66,6 +66,8 @@ OPTIONS = [
     ("--port PORT", ("serve",), "the port, 0 for a free one; without it 8000"),
     ("--address ADDRESS", ("serve",), "the address; without it 127.0.0.1, which this machine alone reaches"),
     ("--promise SECONDS", ("serve",), "how long a session pins its version, 1 to 86,400; without it 900"),
+    ("--versions N", ("serve",), "how many of the newest versions stay in memory, 2 to 4; without it 2"),
+    ("--from-files", ("serve",), "reads pages from files alone, and has no program stay"),
     ("--batch ID", ("put",), "a name of these changes, which are taken once: put again they change nothing"),
     ("--as NAME", ("put",), "the view of the one file, or of standard input"),
     ("--all", ("backup",), "copies all versions"),

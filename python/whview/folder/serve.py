@@ -1,6 +1,9 @@
 """`serve`: a folder for those who read, over HTTP, on the loopback interface unless another address is asked for.
 
-Nothing is written, and no request waits for a night: each holds the version that it reads. GET /VIEW takes these fields, as `read` does:
+Nothing is written, and no request waits for a night: each holds the version that it reads. Pages of the newest versions come from the memory
+of `whview live`, which stays beside the folder. Where it is not there, is at work, or is not as it should be, the same comes from files.
+
+GET /VIEW takes these fields, as `read` does:
 where=COLUMN=VALUE, or with !=, <, <=, > or >=, several times; order=COLUMN or -COLUMN; columns=A,B; limit=L, 1,000 or up to 10,000;
 format=json, csv or jsonl; version=N; session=NAME; after=A, which is the `next` of the page before, or its header X-Next.
 
@@ -30,8 +33,10 @@ from typing import TYPE_CHECKING, ClassVar, TypeAlias
 from urllib.parse import urlsplit
 
 from ..finding import Failure, warn
+from ..program import ready
 from ..status import DONE, NOT_WRITTEN, Status
 from .answers import Answer, Answers, Request, as_json
+from .memory import LEAST, MOST, USUAL, Memory
 from .numbers import is_between
 from .reading import whole_number
 from .scans import Gone
@@ -314,14 +319,20 @@ def run(words: Words) -> Status:
     port = whole_number(words.option("--port", str(USUAL_PORT)), "--port", 0, 65535)
     promise = whole_number(words.option("--promise", str(USUAL_PROMISE)), "--promise", 1, LONGEST)
     address = words.option("--address", LOOPBACK[0])
+    versions = whole_number(words.option("--versions", str(USUAL)), "--versions", LEAST, MOST)
     spare_memory()
+    answers = Answers(words.folder, promise)
+    if not words.from_files:
+        answers.memory = Memory(answers.folder, answers.tables, lambda: ready(words.named, words.unproved), versions, lambda line: warn([line]))
     try:
-        server = Server(address, port, Answers(words.folder, promise))
+        server = Server(address, port, answers)
     except OSError as error:
         raise Failure(NOT_WRITTEN, f"port {port} of {address} cannot be served: {error.strerror}") from error
     if not server.is_loopback:
         warn([f"other machines read it too at {address}: it knows no users and no encryption; put a proxy in front that does"])
     with server:
+        if answers.memory:
+            answers.memory.start()
         print(f"{words.folder} is read at {server.url}; a session is promised {promise:,} seconds", flush=True)
         server.serve_forever()
     return DONE

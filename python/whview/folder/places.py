@@ -1,0 +1,176 @@
+"""The rows of a version's tables as a program keeps them that stays: each behind its place, a number by which rows stand as in their file.
+
+A row that comes in the place of another has this one's; what comes at the end has a higher place than any before; and the place of a row
+that left stays empty. So a row's number in the file leads to its place, and a night moves nothing but the rows that it changes.
+"""
+
+from __future__ import annotations
+
+import os
+from bisect import bisect_left
+from collections.abc import Collection, Iterator, Sequence
+from heapq import merge
+from io import BufferedReader
+from typing import NamedTuple
+
+from ..catalogue.formulas import MOST_COLUMNS
+from ..catalogue.views import Kind
+from .blocks import is_in_lines, opened
+from .line_edits import Edit, Place, edits
+from .reading import Columns, Table
+
+# How many tables a program has, and how many columns one has, its places among them.
+MOST_TABLES = 64
+
+
+class Unkept(Exception):
+    """A table, or a change of it, is none that is kept by places, and why."""
+
+
+class Places:
+    """The places of so many rows, of which those that are empty are known, rising."""
+
+    def __init__(self, count: int, empty: Sequence[int] = ()) -> None:
+        self.count, self.empty = count, empty
+        # How many rows stand before each empty place.
+        self.before = [place - 1 - number for number, place in enumerate(empty)]
+
+    @property
+    def last(self) -> int:
+        """The highest place that a row ever had."""
+        return self.count + len(self.empty)
+
+    def of(self, number: int) -> int:
+        """The place of a row by its number in the table, from 1; 0 is before all rows."""
+        return number + bisect_left(self.before, number)
+
+
+def row_of(line: bytes, place: int, sign: int, is_counted: bool) -> bytes:
+    """A line of a table as changes have it, which come or leave: its count, its place, and its cells."""
+    content = line.removesuffix(b"\n")
+    if not content.strip(b"\r") or not is_in_lines(line):
+        raise Unkept("a record that is no line")
+    if not is_counted:
+        return b"%d,%d,%s\n" % (sign, place, content)
+    times, _, cells = content.partition(b",")
+    return b"%d,%d,%s\n" % (sign * int(times), place, cells)
+
+
+def numbered(lines: Sequence[bytes], first: int, is_counted: bool) -> bytes:
+    """Lines of a table with their places, from a first one on."""
+    if not is_counted:
+        return b"".join([b"%d,%s\n" % row for row in enumerate(lines, first)])
+    parted = (line.partition(b",") for line in lines)
+    return b"".join([b"%s,%d,%s\n" % (times, place, cells) for place, (times, _, cells) in enumerate(parted, first)])
+
+
+class Change(NamedTuple):
+    """The changes of a table as a night is given them, line by line, and the places of its rows after it."""
+
+    rows: list[bytes]
+    places: Places
+
+
+class KeptTable:
+    """A table that a program keeps: the name that it has there, its file, which stays open, and the places of its rows. Names are the
+    program's own: those of a folder need not be such as it takes.
+    """
+
+    def __init__(self, name: str, table: Table, places: Places) -> None:
+        self.name, self.columns, self.start, self.places = name, table.columns, table.place_before(0).at, places
+        self.file: BufferedReader = opened(table.path)
+
+    @property
+    def look(self) -> tuple[int, int]:
+        """By what the file is known while it is open."""
+        found = os.fstat(self.file.fileno())
+        return found.st_dev, found.st_ino
+
+    @property
+    def header(self) -> list[str]:
+        """The columns as the program has them, the place first."""
+        return ["place", *(f"c{number}" for number, _ in enumerate(self.columns.names))]
+
+    def declared(self) -> str:
+        """The table as a catalogue of the program has it."""
+        kinds = [Kind.INT, *self.columns.kinds]
+        columns = ", ".join(f'"{name}:{kind.value}"' for name, kind in zip(self.header, kinds))
+        return f'[[view]]\nname = "{self.name}"\ncolumns = [{columns}]\n'
+
+    def lines(self) -> Iterator[bytes]:
+        """The table as data of an opening, in pieces; its rows are counted."""
+        yield ",".join(["#"] * self.columns.counted + self.header).encode() + b"\n"
+        place, rows = Place(self.file.fileno(), self.start), 0
+        while block := place.block():
+            if not is_in_lines(block):
+                raise Unkept("records that are no lines")
+            place.at += len(block)
+            lines = block.split(b"\n")[:-1]
+            yield numbered(lines, rows + 1, self.columns.counted)
+            rows += len(lines)
+        self.places = Places(rows)
+
+    def change_to(self, other: KeptTable, most: int) -> Change:
+        """What makes this table the other one, of so many edits at most."""
+        old, new = Place(self.file.fileno(), self.start), Place(other.file.fileno(), other.start)
+        made = Changing(self.places, self.columns.counted)
+        for number, edit in enumerate(edits(old, new)):
+            if number == most:
+                raise Unkept(f"more than {most:,} rows that changed")
+            made.take(edit)
+        return made.done()
+
+    def close(self) -> None:
+        """Lets the file go."""
+        self.file.close()
+
+
+class Changing:
+    """The change of a table that is put together edit by edit."""
+
+    def __init__(self, places: Places, is_counted: bool) -> None:
+        self.places, self.is_counted, self.next = places, is_counted, places.last + 1
+        self.rows: list[bytes] = []
+        self.left: list[int] = []
+
+    def take(self, edit: Edit) -> None:
+        """Takes one more edit."""
+        place = self.places.of(edit.number) if edit.number else self.next
+        self.next += not edit.number
+        if edit.old:
+            self.rows.append(row_of(edit.old, place, -1, self.is_counted))
+        if edit.new:
+            self.rows.append(row_of(edit.new, place, 1, self.is_counted))
+        else:
+            self.left.append(place)
+
+    def done(self) -> Change:
+        """The whole change."""
+        empty = list(merge(self.places.empty, self.left))
+        return Change(self.rows, Places(self.next - 1 - len(empty), empty))
+
+
+def can_be_kept(columns: Columns) -> bool:
+    """Whether a program takes a table with these columns and one more."""
+    return 0 < len(columns.names) < MOST_COLUMNS
+
+
+def data_of(table: KeptTable) -> Iterator[bytes]:
+    """The part of a table in the bundle by which a program opens."""
+    yield f"@data {table.name}\n".encode()
+    yield from table.lines()
+
+
+def catalogue_of(tables: Collection[KeptTable]) -> bytes:
+    """The parts that stand beside those of the tables: each is a base view, and a night installs them one after another."""
+    views, steps = "".join(table.declared() for table in tables), "".join(f"inst {table.name}\n" for table in tables)
+    return f"@catalogue\n{views}@strategy\n{steps}".encode()
+
+
+def night_of(changes: Collection[tuple[KeptTable, Change]]) -> bytes:
+    """A night that carries these changes out, as commands have it."""
+    parts = [b"night\n"]
+    for table, change in changes:
+        parts.append(f"@changes {table.name}\n{','.join(['#', *table.header])}\n".encode())
+        parts += change.rows
+    return b"".join([*parts, b"@end\n"])
