@@ -10,7 +10,7 @@ from unittest import mock
 
 import pytest
 
-from whview.folder import keeping, line_edits, memory
+from whview.folder import keeping, line_edits, memory, places
 from whview.folder.line_edits import Edit, Place, edits
 from whview.folder.places import Places
 
@@ -72,9 +72,9 @@ def test_few_edits_are_found_where_little_changed(tmp_path):
 
 
 def test_a_number_leads_to_its_place_over_those_that_are_empty():
-    places = Places(6, [1, 2, 5, 9])
-    assert [places.of(number) for number in range(7)] == [0, 3, 4, 6, 7, 8, 10]
-    assert (places.last, Places(3).of(2), Places(0, [1]).of(0)) == (10, 2, 0)
+    found = Places(6, [1, 2, 5, 9])
+    assert [found.of(number) for number in range(7)] == [0, 3, 4, 6, 7, 8, 10]
+    assert (found.last, Places(3).of(2), Places(0, [1]).of(0)) == (10, 2, 0)
 
 
 @pytest.mark.parametrize("seed", range(3))
@@ -117,8 +117,8 @@ def test_while_a_night_is_under_way_files_answer(remembered):
     assert remembered.is_same(target)
     with mock.patch.object(keeping, "WAIT", 0.01), remembered.memory.keeping.lock:
         assert not remembered.is_same(target)
-    remembered.memory.keeping.is_busy = True
-    assert not remembered.is_same(target)
+        remembered.memory.keeping.due = 0.0
+        assert not remembered.is_same(target)
 
 
 SPOILT = {
@@ -218,6 +218,28 @@ def test_an_older_version_that_counts_again_is_read_as_it_is(remembered):
     remembered.night()
     remembered.memory.look()
     assert remembered.is_same(remembered.target())
+
+
+def test_where_many_places_are_empty_the_program_begins_anew(remembered):
+    remembered.rows["orders"] = [[1, number, "x", 2] for number in range(20)]
+    remembered.version()
+    with mock.patch.object(places, "MOST_EMPTY", 15):
+        for _ in range(3):
+            remembered.memory.look()
+            assert remembered.is_same("/orders?limit=8&after=9")
+            remembered.rows["orders"] = remembered.rows["orders"][7:] + [[1, number, "y", remembered.number] for number in range(7)]
+            remembered.version()
+        remembered.memory.look()
+        assert "more than 15 places that are empty" in remembered.told[-1]
+        remembered.memory.look()
+    assert remembered.is_same("/orders?limit=8&after=9")
+
+
+def test_a_fault_of_the_tool_itself_is_told(remembered):
+    with mock.patch.object(remembered.memory, "step", side_effect=ZeroDivisionError):
+        remembered.memory.look()
+    remembered.memory.look()
+    assert remembered.is_same("/orders?limit=8") is False
 
 
 def test_without_a_program_that_knows_pages_files_answer(remembered, script):

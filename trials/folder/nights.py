@@ -12,6 +12,7 @@ import random
 import os
 import re
 import shutil
+import socket
 import subprocess
 import sys
 import tempfile
@@ -78,9 +79,18 @@ def session(built, folder, block):
         shutil.copytree(ROOT / "examples/shop", folder / "shop")
     more = {"WHVIEW_PROGRAM": str(built), "PATH": f"{ROOT}:{os.environ['PATH']}"}
     ran = subprocess.run(["bash", "-e", "-o", "pipefail", "-c", block], cwd=folder, capture_output=True, text=True, env={**os.environ, **more})
-    if ran.returncode or any(not line.startswith(("sizes ", "this is done by ")) for line in ran.stderr.splitlines()):
+    if ran.returncode or any(not line.startswith(("sizes ", "this is done by ", "version ")) for line in ran.stderr.splitlines()):
         fail(f"the README's commands {block!r} end with {ran.returncode}: {ran.stderr}")
     return ran.stdout
+
+
+def serving(block):
+    """A block that serves the shop, behind a first night, at a port that is free."""
+    with socket.socket() as free:
+        free.bind(("127.0.0.1", 0))
+        port = str(free.getsockname()[1])
+    served_there = block.replace("serve shop", f"serve shop --port {port}").replace("8000", port)
+    return f"./whview folder night shop --commit >first\n{served_there}"
 
 
 def judge_readme(built):
@@ -88,6 +98,8 @@ def judge_readme(built):
     page = (ROOT / "README.md").read_text().partition("\n## Your own warehouse\n")[2].partition("\n## ")[0]
     blocks = re.findall(r"```\n(.*?)```", page, re.DOTALL)
     said = {"certify": "certified all work 96\n", "--commit": "work 98\n", "lint": "daily_by_region,,6,8\n", "unpack": ""}
+    said |= {"serve": "1,7,Wednesday,south\n#,id,day,region\n"}
+    blocks = [block if "serve" not in block else serving(block) for block in blocks]
     blocks.append(re.search(r"```\n(.*?)```", (ROOT / "docs/WAREHOUSE.md").read_text(), re.DOTALL)[1])
     wanted = [(next(block for block in blocks if word in block), answer) for word, answer in said.items()]
     for block, answer in [*wanted, (blocks[-1], "\nwork 98\n")]:

@@ -8,6 +8,7 @@ from __future__ import annotations
 
 import csv
 import re
+import time
 from collections.abc import Iterator, Mapping
 from itertools import chain
 from pathlib import Path
@@ -100,7 +101,9 @@ class Keeping:
     """A running program, the tables that it has, and the versions that it keeps of them, the newest last."""
 
     def __init__(self, program: Path, tables: Tables, count: int) -> None:
-        self.lock, self.count, self.is_busy, self.lost = Lock(), count, False, ""
+        self.lock, self.count, self.lost = Lock(), count, ""
+        # Until when pages wait for a night that is under way, or None without one.
+        self.due: float | None = None
         self.desks: dict[int, KeptVersion] = {}
         opening, self.tables = put_opening(kept_tables(tables))
         numbers = [word for name in ("--desks", "--versions") for word in (name, str(count))]
@@ -147,7 +150,7 @@ class Keeping:
 
     def carry(self, night: bytes) -> None:
         """Has the program carry a night out, and opens a session of its version at the desk of the oldest one."""
-        self.is_busy = True
+        self.due = time.monotonic() + WAIT
         try:
             with self.lock:
                 self.expect(self.talk.ask(night, NIGHT), STEPS)
@@ -155,7 +158,7 @@ class Keeping:
                 self.expect(self.talk.ask(b"commit\n", NIGHT), re.compile(b"version %d\n" % self.number))
                 self.turn(self.number % self.count)
         finally:
-            self.is_busy = False
+            self.due = None
 
     def turn(self, desk: int) -> None:
         """Has a desk read the newest version."""
@@ -199,7 +202,8 @@ class Keeping:
 
     def asked(self, kept: KeptVersion, command: bytes) -> bytes:
         """The program's page, if nobody else takes it for long, and it keeps the version yet."""
-        if self.is_busy or not self.lock.acquire(timeout=WAIT):
+        due = self.due
+        if not self.lock.acquire(timeout=WAIT if due is None else max(due - time.monotonic(), 0)):
             raise Elsewhere
         try:
             if self.desks.get(kept.desk) is not kept:

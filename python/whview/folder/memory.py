@@ -104,6 +104,8 @@ class Memory:
         except (Failure, OSError):
             # The folder is being moved or is damaged: whoever reads is told what is wrong.
             pass
+        except Exception as fault:
+            self.lost(f"this is a fault of the tool itself ({fault!r})")
 
     def step(self) -> None:
         """Has the program keep the current version, where it does not yet."""

@@ -21,6 +21,8 @@ from .reading import Columns, Table
 
 # How many tables a program has, and how many columns one has, its places among them.
 MOST_TABLES = 64
+# How many places of a table may be empty, or as many as it has rows.
+MOST_EMPTY = 100_000
 
 
 class Unkept(Exception):
@@ -147,7 +149,10 @@ class Changing:
     def done(self) -> Change:
         """The whole change."""
         empty = list(merge(self.places.empty, self.left))
-        return Change(self.rows, Places(self.next - 1 - len(empty), empty))
+        count = self.next - 1 - len(empty)
+        if len(empty) > max(MOST_EMPTY, count):
+            raise Unkept(f"more than {MOST_EMPTY:,} places that are empty")
+        return Change(self.rows, Places(count, empty))
 
 
 def can_be_kept(columns: Columns) -> bool:

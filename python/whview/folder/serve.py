@@ -56,6 +56,8 @@ PIECE, SLOW = 2**18, 3
 # How many bytes a thread's stack has; and how many heaps the C library makes, which are one for each thread otherwise, 64 MB of addresses
 # each, and by what number it is told so.
 STACK, HEAPS, MOST_HEAPS = 2**19, 2, -8
+# For how many seconds a thread computes before another one has its turn: an answer is not to wait for long while tables are compared.
+TURN = 0.001
 HEADERS = {
     "X-Content-Type-Options": "nosniff",
     "Content-Security-Policy": "default-src 'none'; style-src 'unsafe-inline'; form-action 'self'; frame-ancestors 'none'; base-uri 'none'",
@@ -308,8 +310,9 @@ class Server(ThreadingHTTPServer):
 
 
 def spare_memory() -> None:
-    """Has threads take little memory, and what is in a cycle be given back: a server is there for long."""
+    """Has threads take little memory and turns, and what is in a cycle be given back: a server is there for long."""
     gc.enable()
+    sys.setswitchinterval(TURN)
     threading.stack_size(STACK)
     with suppress(AttributeError, OSError):
         ctypes.CDLL(None).mallopt(MOST_HEAPS, HEAPS)

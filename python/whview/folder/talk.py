@@ -70,7 +70,8 @@ class Talk:
             except BlockingIOError:
                 self.wait(self.input, due)
             except BrokenPipeError:
-                raise Lost("the program has ended") from None
+                # What it said before it ended is read.
+                return
 
     def wait(self, pipe: select.poll, due: float) -> None:
         """Waits for a pipe, as long as there is time."""

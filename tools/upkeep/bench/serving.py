@@ -1,8 +1,11 @@
 """Measures `whview folder serve` over 330,000 rows: an answer on a kept connection, a page of 256 rows alone and beside twenty clients that
 search for texts, how many searches these had, and the memory that six clients hold who ask for 10,000 rows of 2,000 bytes and do not read.
 
+Then fifty clients ask for pages at drawn places of another folder of 330,000 rows, beside nights one after another: once from the memory of a
+program that stays, and once from files alone.
+
 Milliseconds are medians and 99ths of a hundred, by the clock. `--beside FOLDER`, a checkout of another state of this repository, is measured
-after this one.
+after this one, but for these clients.
 """
 
 import os
@@ -18,6 +21,7 @@ from contextlib import contextmanager
 from http.client import HTTPConnection, HTTPException
 from pathlib import Path
 
+from upkeep.bench import serving_nights
 from upkeep.bench.checkouts import checkouts
 
 ROUNDS = 200
@@ -152,3 +156,4 @@ def measure(asked) -> None:
                 print(f"    beside searches {beside_searches(port, lambda: client.times('/facts?limit=256', asked.rounds))}", flush=True)
             with served(checkout.root, Path(folder)) as (pid, port):
                 print(f"    six clients that do not read: {unread(pid, port)}", flush=True)
+    serving_nights.measure(asked)
