@@ -102,7 +102,7 @@ class Live:
         return "unknown\n"
 
     def tables(self):
-        rows = "".join(f"{name},{len(view.versions[-1])}\n" for name, view in self.views.items())
+        rows = "".join(f"{name},{view.versions[-1].total()}\n" for name, view in self.views.items())
         return f"view,rows\n{rows}versions {' '.join(map(str, range(max(0, self.number + 1 - self.kept), self.number + 1)))}\n"
 
     def night(self, lines):

@@ -208,6 +208,17 @@ def test_other_columns_much_that_changed_and_records_that_are_no_lines_begin_ane
     assert not remembered.is_same("/words?limit=1000")
 
 
+def test_a_file_that_somebody_changed_is_loaded_anew(remembered):
+    remembered.memory.look()
+    remembered.rows["words"] = [[1, "another"]]
+    (remembered.folder / "current/data/words.csv").write_text("#,word\n1,another\n")
+    remembered.version()
+    remembered.memory.look()
+    assert "a file that somebody changed" in remembered.told[-1]
+    remembered.memory.look()
+    assert remembered.is_same("/words?limit=5")
+
+
 def test_an_older_version_that_counts_again_is_read_as_it_is(remembered):
     remembered.memory.look()
     remembered.night()

@@ -134,7 +134,7 @@ class Keeping:
 
     def judge(self) -> None:
         """Asks how many rows there are, and compares that."""
-        rows = "".join(f"{table.name},{table.places.count}\n" for table in self.tables.values())
+        rows = "".join(f"{table.name},{table.places.total}\n" for table in self.tables.values())
         if not self.talk.ask(b"tables\n", OPENING).startswith(f"view,rows\n{rows}versions ".encode()):
             raise Lost("the program has other tables than it was given")
 
@@ -234,7 +234,7 @@ class Keeping:
 
 def changed(table: KeptTable, other: KeptTable) -> tuple[KeptTable, Change] | None:
     """How a table becomes the one of a newer version, whose places are known then; None where nothing changes."""
-    if other.look == table.look:
+    if table.is_same(other):
         other.places = table.places
         return None
     change = table.change_to(other, max(FEW, table.places.count // PART))

@@ -30,10 +30,10 @@ class Unkept(Exception):
 
 
 class Places:
-    """The places of so many rows, of which those that are empty are known, rising."""
+    """The places of so many records, of which those that are empty are known, rising; and how often all records count together."""
 
-    def __init__(self, count: int, empty: Sequence[int] = ()) -> None:
-        self.count, self.empty = count, empty
+    def __init__(self, count: int, empty: Sequence[int] = (), total: int = 0) -> None:
+        self.count, self.empty, self.total = count, empty, total
         # How many rows stand before each empty place.
         self.before = [place - 1 - number for number, place in enumerate(empty)]
 
@@ -47,23 +47,32 @@ class Places:
         return number + bisect_left(self.before, number)
 
 
-def row_of(line: bytes, place: int, sign: int, is_counted: bool) -> bytes:
-    """A line of a table as changes have it, which come or leave: its count, its place, and its cells."""
+def counted_row(line: bytes, is_counted: bool) -> tuple[int, bytes]:
+    """How often a line of a table counts, and its cells."""
     content = line.removesuffix(b"\n")
     if not content.strip(b"\r") or not is_in_lines(line):
         raise Unkept("a record that is no line")
     if not is_counted:
-        return b"%d,%d,%s\n" % (sign, place, content)
+        return 1, content
     times, _, cells = content.partition(b",")
-    return b"%d,%d,%s\n" % (sign * int(times), place, cells)
+    return count_of(times), cells
 
 
-def numbered(lines: Sequence[bytes], first: int, is_counted: bool) -> bytes:
-    """Lines of a table with their places, from a first one on."""
+def count_of(cell: bytes) -> int:
+    """The count that a cell is."""
+    try:
+        return int(cell)
+    except ValueError:
+        raise Unkept("a record without a count") from None
+
+
+def numbered(lines: Sequence[bytes], first: int, is_counted: bool) -> tuple[int, bytes]:
+    """Lines of a table with their places, from a first one on, behind how often they count together."""
     if not is_counted:
-        return b"".join([b"%d,%s\n" % row for row in enumerate(lines, first)])
-    parted = (line.partition(b",") for line in lines)
-    return b"".join([b"%s,%d,%s\n" % (times, place, cells) for place, (times, _, cells) in enumerate(parted, first)])
+        return len(lines), b"".join([b"%d,%s\n" % row for row in enumerate(lines, first)])
+    parted = [line.partition(b",") for line in lines]
+    total = sum([count_of(times) for times, _, _ in parted])
+    return total, b"".join([b"%s,%d,%s\n" % (times, place, cells) for place, (times, _, cells) in enumerate(parted, first)])
 
 
 class Change(NamedTuple):
@@ -81,12 +90,15 @@ class KeptTable:
     def __init__(self, name: str, table: Table, places: Places) -> None:
         self.name, self.columns, self.start, self.places = name, table.columns, table.place_before(0).at, places
         self.file: BufferedReader = opened(table.path)
-
-    @property
-    def look(self) -> tuple[int, int]:
-        """By what the file is known while it is open."""
+        # By what the file is known, and how it looked as it was opened.
         found = os.fstat(self.file.fileno())
-        return found.st_dev, found.st_ino
+        self.inode, self.look = (found.st_dev, found.st_ino), (found.st_size, found.st_mtime_ns)
+
+    def is_same(self, other: KeptTable) -> bool:
+        """Whether another table is in the same file, which nobody may have changed since."""
+        if self.inode == other.inode and self.look != other.look:
+            raise Unkept("a file that somebody changed")
+        return self.inode == other.inode
 
     @property
     def header(self) -> list[str]:
@@ -102,15 +114,16 @@ class KeptTable:
     def lines(self) -> Iterator[bytes]:
         """The table as data of an opening, in pieces; its rows are counted."""
         yield ",".join(["#"] * self.columns.counted + self.header).encode() + b"\n"
-        place, rows = Place(self.file.fileno(), self.start), 0
+        place, rows, total = Place(self.file.fileno(), self.start), 0, 0
         while block := place.block():
             if not is_in_lines(block):
                 raise Unkept("records that are no lines")
             place.at += len(block)
             lines = block.split(b"\n")[:-1]
-            yield numbered(lines, rows + 1, self.columns.counted)
-            rows += len(lines)
-        self.places = Places(rows)
+            count, piece = numbered(lines, rows + 1, self.columns.counted)
+            yield piece
+            rows, total = rows + len(lines), total + count
+        self.places = Places(rows, (), total)
 
     def change_to(self, other: KeptTable, most: int) -> Change:
         """What makes this table the other one, of so many edits at most."""
@@ -131,7 +144,7 @@ class Changing:
     """The change of a table that is put together edit by edit."""
 
     def __init__(self, places: Places, is_counted: bool) -> None:
-        self.places, self.is_counted, self.next = places, is_counted, places.last + 1
+        self.places, self.is_counted, self.next, self.total = places, is_counted, places.last + 1, places.total
         self.rows: list[bytes] = []
         self.left: list[int] = []
 
@@ -140,11 +153,17 @@ class Changing:
         place = self.places.of(edit.number) if edit.number else self.next
         self.next += not edit.number
         if edit.old:
-            self.rows.append(row_of(edit.old, place, -1, self.is_counted))
+            self.put(edit.old, place, -1)
         if edit.new:
-            self.rows.append(row_of(edit.new, place, 1, self.is_counted))
+            self.put(edit.new, place, 1)
         else:
             self.left.append(place)
+
+    def put(self, line: bytes, place: int, sign: int) -> None:
+        """Puts a row that comes, or one that leaves."""
+        times, cells = counted_row(line, self.is_counted)
+        self.total += sign * times
+        self.rows.append(b"%d,%d,%s\n" % (sign * times, place, cells))
 
     def done(self) -> Change:
         """The whole change."""
@@ -152,7 +171,7 @@ class Changing:
         count = self.next - 1 - len(empty)
         if len(empty) > max(MOST_EMPTY, count):
             raise Unkept(f"more than {MOST_EMPTY:,} places that are empty")
-        return Change(self.rows, Places(count, empty))
+        return Change(self.rows, Places(count, empty, self.total))
 
 
 def can_be_kept(columns: Columns) -> bool:
