@@ -74,6 +74,7 @@ def test_few_edits_are_found_where_little_changed(tmp_path):
 def test_a_number_leads_to_its_place_over_those_that_are_empty():
     found = Places(6, [1, 2, 5, 9])
     assert [found.of(number) for number in range(7)] == [0, 3, 4, 6, 7, 8, 10]
+    assert (found.behind(1, 4), found.behind(4, 2)) == ([4, 6, 7, 8], [8, 10])
     assert (found.last, Places(3).of(2), Places(0, [1]).of(0)) == (10, 2, 0)
 
 

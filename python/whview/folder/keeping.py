@@ -20,7 +20,7 @@ from ..finding import Failure
 from ..program import temporary
 from .choosing import Choice
 from .places import MOST_TABLES, Change, KeptTable, Places, Unkept, can_be_kept, catalogue_of, data_of, night_of
-from .reading import Numbered, Table, Tables
+from .reading import Numbered, Table, Tables, value_of
 from .talk import Lost, Talk
 
 # For how many seconds an opening, a night and a page are waited for, and those who ask before one.
@@ -192,13 +192,15 @@ class Keeping:
         cells = "".join(",0" if kind == Kind.INT else "," for kind in table.columns.kinds)
         answer = self.asked(kept, f"page {kept.desk} {name} {count + 1} after {before}{cells}\n".encode())
         try:
-            records = records_of(answer)
-            found = [record for record in records if int(record[1]) > before][:count]
-        except (ValueError, IndexError, csv.Error):
+            records = [(int(times), int(place), cells) for times, place, *cells in records_of(answer)]
+        except (ValueError, csv.Error):
             raise Lost("the program gives a page that is none") from None
-        if [int(record.pop(1)) for record in found] != [places.of(first + number) for number in range(1, count + 1)]:
+        start = 1 if records and records[0][1] == before else 0
+        found = records[start : start + count]
+        if [place for _, place, _ in found] != places.behind(first, count):
             raise Lost("the program gives other rows than were asked for")
-        return [(first + number, table.row(record if table.columns.counted else record[1:])) for number, record in enumerate(found, 1)]
+        kinds = table.columns.kinds
+        return [(number, (times, tuple(map(value_of, cells, kinds)))) for number, (times, _, cells) in enumerate(found, first + 1)]
 
     def asked(self, kept: KeptVersion, command: bytes) -> bytes:
         """The program's page, if nobody else takes it for long, and it keeps the version yet."""

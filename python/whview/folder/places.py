@@ -46,6 +46,13 @@ class Places:
         """The place of a row by its number in the table, from 1; 0 is before all rows."""
         return number + bisect_left(self.before, number)
 
+    def behind(self, first: int, count: int) -> list[int]:
+        """The places of so many records behind the first ones."""
+        start, last = self.of(first + 1), self.of(first + count)
+        if last - start == count - 1:
+            return list(range(start, last + 1))
+        return [self.of(number) for number in range(first + 1, first + count + 1)]
+
 
 def counted_row(line: bytes, is_counted: bool) -> tuple[int, bytes]:
     """How often a line of a table counts, and its cells."""
