@@ -1,5 +1,6 @@
 """`serve` with a program that stays: the same answers as from files, whatever becomes of the program."""
 
+import errno
 import random
 import re
 import socket
@@ -218,6 +219,14 @@ def test_a_file_that_somebody_changed_is_loaded_anew(remembered):
     assert "a file that somebody changed" in remembered.told[-1]
     remembered.memory.look()
     assert remembered.is_same("/words?limit=5")
+
+
+def test_where_there_is_no_room_for_an_opening_it_is_tried_again_later(remembered):
+    with mock.patch.object(keeping, "temporary", side_effect=OSError(errno.ENOSPC, "No space left on device", "/tmp")) as tried:
+        for _ in range(3):
+            remembered.memory.look()
+    assert tried.call_count == 1
+    assert remembered.told == ["what a program kept is read from files: /tmp: No space left on device; another one begins in 1 seconds"]
 
 
 def test_an_older_version_that_counts_again_is_read_as_it_is(remembered):

@@ -13,7 +13,7 @@ from pathlib import Path
 from threading import Event, Thread
 from typing import TypeAlias
 
-from ..finding import Failure
+from ..finding import Failure, of_system
 from ..program import Chosen
 from .choosing import Choice
 from .declared.said import is_taken
@@ -114,11 +114,20 @@ class Memory:
         if self.current() in (*self.kept, self.unfit, None) or time.monotonic() < self.until:
             return
         with Held(self.folder) as held:
-            if self.keeping is None:
-                self.begin(held)
-            elif key(held) not in self.kept:
-                self.keeping.follow(self.tables(held))
-                self.note(key(held), self.keeping)
+            try:
+                self.take(held)
+            except Failure as failure:
+                raise Lost(str(failure.lines[0])) from failure
+            except OSError as error:
+                raise Lost(of_system(error)) from error
+
+    def take(self, held: Held) -> None:
+        """Has the program take a version, or one begin with it."""
+        if self.keeping is None:
+            self.begin(held)
+        elif key(held) not in self.kept:
+            self.keeping.follow(self.tables(held))
+            self.note(key(held), self.keeping)
 
     def current(self) -> Key | None:
         """The current version, or None without one."""
