@@ -151,7 +151,8 @@ COMMANDS = [
              2: "these words are not taken, or no file is named", 3: "the file has a fault, or a read of the commands failed"},
             "live --input examples/live_shop.opening",
             "Reads commands from standard input: 'night' and the night's parts up to '@end', 'commit', 'giveup',\n"
-            "'open D', 'read D VIEW LIMIT', 'close D' and 'quit'.\n\n"),
+            "'open D', 'read D VIEW LIMIT', 'page D VIEW LIMIT', which may go on by 'after CELLS', 'close D', 'tables',\n"
+            "'changes' and 'quit'.\n\n"),
 ]
 
 MORE = "\nFor more information, try '--help'.\n"

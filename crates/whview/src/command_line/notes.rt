@@ -74,7 +74,8 @@ Example:
 /// The end of the help of `live`.
 pub const LIVE: &str =
     "Reads commands from standard input: 'night' and the night's parts up to '@end', 'commit', 'giveup',
-'open D', 'read D VIEW LIMIT', 'close D' and 'quit'.
+'open D', 'read D VIEW LIMIT', 'page D VIEW LIMIT', which may go on by 'after CELLS', 'close D', 'tables',
+'changes' and 'quit'.
 
 Ends with:
   0  the commands are at their end, also where some are refused
