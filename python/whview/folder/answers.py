@@ -27,6 +27,7 @@ from .forms import Form
 from .held import Held
 from .jobs import Job
 from .memory import Memory
+from .night_server import NightServer
 from .pages import DEADLINE, FORMS, Page, Unfit, bytes_of, page_of
 from .reading import Far, Missing, Tables, VersionKey, key_of, version_tables, whole_number
 from .room import Crowded, Room
@@ -193,6 +194,8 @@ class Answers:
         self.scans = Scans(self.room)
         # What a program that stays has of the newest versions, where there is one.
         self.memory: Memory | None = None
+        # Who computes the folder's nights, where somebody does here.
+        self.nights: NightServer | None = None
 
     def answer(self, request: Request) -> Answer:
         """The answer to a request, whatever it is."""
@@ -424,8 +427,10 @@ class Answers:
         return Answer(HTTPStatus.OK, HTML, body, {}, len(body))
 
     def close(self) -> None:
-        """Ends the searches, and the program that stays."""
+        """Ends the searches, and the programs that stay."""
         self.scans.close()
+        if self.nights:
+            self.nights.close()
         if self.memory:
             self.memory.close()
 

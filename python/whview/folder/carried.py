@@ -20,11 +20,13 @@ from .made import Made, Printed, Table, made, of_base, of_change, rows_in
 from .planning import certified, planned, strategy_of
 from .sizes import Size, base_sizes, given_text, last_report, rows_of, sized, told_before, told_rows
 from .strategy import FILE, at_once, written
+from .versions import SOCKET
 
 if TYPE_CHECKING:
     from ..catalogue.from_toml import CatalogueView
     from .command import Words
     from .folder import Folder
+    from .night_client import Asked
 
 # What has the program print the changes of derived views in the place of their tables.
 CHANGES = ("--print", "changes")
@@ -67,6 +69,8 @@ class Night:
         self, folder: Folder, chosen: Chosen, kept: Kept, answer: program.Night, again: Callable[[], program.Night], began: float
     ) -> None:
         self.folder, self.chosen, self.kept, self.answer, self.again, self.began = folder, chosen, kept, answer, again, began
+        # The process that computed it, where one did that serves the folder.
+        self.asked: Asked | None = None
         self.changed = answer.changed()
         # How many rows each derived view has whose table is put, and the sizes of all views, once the report is made.
         self.rows: dict[str, int] = {}
@@ -197,4 +201,19 @@ def done(folder: Folder, words: Words, began: float) -> Night:
     def run(*options: str) -> program.Night:
         return program.explained_night(folder, words, taken.strategy, [*words.through, *options])
 
-    return Night(folder, taken, kept, run(*CHANGES) if kept.can_take_changes() else run(), run, began)
+    if not kept.can_take_changes():
+        return Night(folder, taken, kept, run(), run, began)
+    served = asked_of_server(folder, words, taken.strategy)
+    night = Night(folder, taken, kept, served.answer if served else run(*CHANGES), run, began)
+    night.asked = served
+    return night
+
+
+def asked_of_server(folder: Folder, words: Words, strategy: str) -> Asked | None:
+    """The night as the process computes it that serves the folder; None where none does, or a program of the night's own is wanted."""
+    if words.through or not (folder.path / SOCKET).is_socket():
+        return None
+    # What a folder that is not served does not need is imported where it is needed.
+    from .night_client import asked
+
+    return asked(folder, words, strategy)

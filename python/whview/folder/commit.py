@@ -36,6 +36,7 @@ if TYPE_CHECKING:
     from .identity import Identity
     from .inputs import Source
     from .interrupts import Interrupts
+    from .night_client import Asked
     from .records import Records
 
 
@@ -46,10 +47,18 @@ class Written(NamedTuple):
     pieces: dict[str, tuple[Piece, ...]]
 
 
-class KeptNight(NamedTuple):
-    """The report of a night that is kept, and its version."""
+class Decided(NamedTuple):
+    """The report of a night that counts, and the process that computed it, where one did that serves the folder."""
 
     report: str
+    asked: Asked | None
+
+
+class KeptNight(NamedTuple):
+    """The same of a night that is kept, and its version."""
+
+    report: str
+    asked: Asked | None
     number: int
 
 
@@ -150,9 +159,9 @@ def write_asides(part: Path, claim: Claim, folder: Folder) -> None:
         aside.write_asides(part, claim, folder.asides)
 
 
-def decided(words: Words, interrupts: Interrupts, identity: Identity, number: int, judged: Mapping[str, Records]) -> str:
-    """Carries the night out up to the rename that decides. Whatever ends it before has the changes put back. Answers the report. The tables
-    that a first night began with become a version before, once the night is carried out. The manifest is written last.
+def decided(words: Words, interrupts: Interrupts, identity: Identity, number: int, judged: Mapping[str, Records]) -> Decided:
+    """Carries the night out up to the rename that decides. Whatever ends it before has the changes put back. The tables that a first night
+    began with become a version before, once the night is carried out. The manifest is written last.
     """
     part = part_of(words.folder, number, identity)
     claim = Claim(words.folder, part)
@@ -180,7 +189,7 @@ def decided(words: Words, interrupts: Interrupts, identity: Identity, number: in
         undo(claim)
         raise
     night.folder.state.release()
-    return report
+    return Decided(report, night.asked)
 
 
 def kept(words: Words, interrupts: Interrupts, judged: Mapping[str, Records]) -> KeptNight:
@@ -189,7 +198,7 @@ def kept(words: Words, interrupts: Interrupts, judged: Mapping[str, Records]) ->
     identity = with_name(words.folder, before)
     number = coming(words.folder, identity)
     try:
-        return KeptNight(decided(words, interrupts, identity, number, judged), number)
+        return KeptNight(*decided(words, interrupts, identity, number, judged), number)
     except BaseException:
         if not before.name and not before.is_copy:
             give_up_name(words.folder, identity)
@@ -272,6 +281,8 @@ def commit(words: Words, interrupts: Interrupts) -> str:
         remove(words.folder / "new")
         prune(words)
         return told
-    report, number = kept(words, interrupts, sound)
+    report, asked, number = kept(words, interrupts, sound)
     finish(words, number)
+    if asked:
+        asked.keep(number)
     return report

@@ -111,7 +111,7 @@ class Memory:
         """Has the program keep the current version, where it does not yet."""
         if self.keeping and (self.keeping.lost or self.keeping.talk.has_ended):
             raise Lost(self.keeping.lost or "the program has ended")
-        if self.current() in (*self.kept, self.unfit, None) or time.monotonic() < self.until:
+        if current_key(self.folder) in (*self.kept, self.unfit, None) or time.monotonic() < self.until:
             return
         with Held(self.folder) as held:
             try:
@@ -128,11 +128,6 @@ class Memory:
         elif key(held) not in self.kept:
             self.keeping.follow(self.tables(held))
             self.note(key(held), self.keeping)
-
-    def current(self) -> Key | None:
-        """The current version, or None without one."""
-        number = named(self.folder)
-        return None if number is None else (number, key_of(os.stat(place(self.folder, number))))
 
     def begin(self, held: Held) -> None:
         """Begins a program with a version, which may be none that one takes."""
@@ -172,6 +167,12 @@ class Memory:
             self.keeping = None
         if why and not self.over.is_set():
             self.tell(f"what a program kept is read from files: {why}")
+
+
+def current_key(folder: Path) -> Key | None:
+    """By what the current version is known, or None without one."""
+    number = named(folder)
+    return None if number is None else (number, key_of(os.stat(place(folder, number))))
 
 
 def key(held: Held) -> Key:

@@ -33,10 +33,11 @@ from typing import TYPE_CHECKING, ClassVar, TypeAlias
 from urllib.parse import urlsplit
 
 from ..finding import Failure, warn
-from ..program import ready
+from ..program import Chosen, ready
 from ..status import DONE, NOT_WRITTEN, Status
 from .answers import Answer, Answers, Request, as_json
 from .memory import LEAST, MOST, USUAL, Memory
+from .night_server import NightServer
 from .numbers import is_between
 from .reading import whole_number
 from .scans import Gone
@@ -318,6 +319,16 @@ def spare_memory() -> None:
         ctypes.CDLL(None).mallopt(MOST_HEAPS, HEAPS)
 
 
+def stay(answers: Answers, versions: int, program: Callable[[], Chosen]) -> None:
+    """Has programs stay: one with the tables of so many versions, and one that computes nights."""
+
+    def tell(line: str) -> None:
+        warn([line])
+
+    answers.memory = Memory(answers.folder, answers.tables, program, versions, tell)
+    answers.nights = NightServer(answers.folder, program, tell)
+
+
 def run(words: Words) -> Status:
     port = whole_number(words.option("--port", str(USUAL_PORT)), "--port", 0, 65535)
     promise = whole_number(words.option("--promise", str(USUAL_PROMISE)), "--promise", 1, LONGEST)
@@ -326,7 +337,7 @@ def run(words: Words) -> Status:
     spare_memory()
     answers = Answers(words.folder, promise)
     if not words.from_files:
-        answers.memory = Memory(answers.folder, answers.tables, lambda: ready(words.named, words.unproved), versions, lambda line: warn([line]))
+        stay(answers, versions, lambda: ready(words.named, words.unproved))
     try:
         server = Server(address, port, answers)
     except OSError as error:
@@ -334,8 +345,9 @@ def run(words: Words) -> Status:
     if not server.is_loopback:
         warn([f"other machines read it too at {address}: it knows no users and no encryption; put a proxy in front that does"])
     with server:
-        if answers.memory:
+        if answers.memory and answers.nights:
             answers.memory.start()
+            answers.nights.start()
         print(f"{words.folder} is read at {server.url}; a session is promised {promise:,} seconds", flush=True)
         server.serve_forever()
     return DONE

@@ -19,6 +19,8 @@ from .identity import NUMBER, Identity, identity_of, numbers
 from .manifest import NoManifest, found_manifest, read_manifest
 
 CURRENT, TURNED, VERSIONS, DELTAS = "current", "current.part", "versions", "deltas"
+# Where the process that serves a folder is asked for its nights.
+SOCKET = ".served"
 LINK = re.compile(r"versions/(0|[1-9][0-9]*)/?")
 # What is being made, and what is being removed: the number, the folder's name where it had one then, and the ending.
 PART, GONE = ".part", ".gone"
