@@ -69,25 +69,35 @@ class NightServer:
     def follow(self) -> None:
         """Has the program be at the current version until the server ends. While a night is under way nothing is done."""
         while not self.over.wait(LOOK):
-            if self.lock.acquire(blocking=False):
+            if self.is_behind() and self.lock.acquire(blocking=False):
                 try:
                     self.step()
                 finally:
                     self.lock.release()
 
+    def is_behind(self) -> bool:
+        """Whether a program is wanted that is at the current version, or the one that stays has ended."""
+        computing = self.computing
+        if computing and computing.talk.has_ended:
+            return True
+        try:
+            return time.monotonic() >= self.until and current_key(self.folder) not in (self.at, self.unfit, None)
+        except (Failure, OSError):
+            # The folder is being moved or is damaged, which its nights tell.
+            return False
+
     def step(self) -> None:
-        """Looks once for another version, and whether the program is there."""
+        """Has another program begin, where one is wanted."""
         try:
             if self.computing and self.computing.talk.has_ended:
                 raise Lost("the program has ended")
-            if time.monotonic() >= self.until and current_key(self.folder) not in (self.at, self.unfit, None):
+            if self.is_behind():
                 self.drop()
                 with Held(self.folder) as held:
                     self.begin(held)
         except Lost as lost:
             self.lose(str(lost))
         except (Failure, OSError):
-            # The folder is being moved or is damaged, which its nights tell.
             self.drop()
         except Exception as fault:
             self.lose(f"this is a fault of the tool itself ({fault!r})")
@@ -139,7 +149,7 @@ class NightServer:
         """Answers who comes, where nobody else is answered and the program is there. Who is not answered does without."""
         try:
             asked = wire.receive() if wire.is_own() else None
-            if asked and self.lock.acquire(blocking=False):
+            if asked and self.lock.acquire(timeout=LOOK):
                 try:
                     self.night(wire, asked)
                 finally:
