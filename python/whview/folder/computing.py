@@ -31,9 +31,12 @@ ROWS = re.compile(r"view,rows\n((?:[A-Za-z_][A-Za-z0-9_]*,[0-9]+\n)*)versions [0
 def told_after(version: Path) -> dict[str, int]:
     """How many rows each view of a version has, as its night told."""
     try:
-        return {name: size.after for name, size in of_report((version / "report.txt").read_text()).items()}
+        found = of_report((version / "report.txt").read_text())
     except (OSError, ValueError, TypeError):
-        raise Unkept("its report does not tell how many rows its views have") from None
+        found = {}
+    if not found:
+        raise Unkept("its report does not tell how many rows its views have")
+    return {name: size.after for name, size in found.items()}
 
 
 def base_files(version: Path, catalogue: Catalogue) -> dict[str, BufferedReader]:

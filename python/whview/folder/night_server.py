@@ -48,7 +48,7 @@ class NightServer:
         try:
             self.listening = listening(self.folder)
         except OSError as error:
-            self.tell(f"nights of {self.folder} begin programs of their own: {of_system(error)}")
+            self.tell(f"nights of {self.folder} begin programs of their own: there can be no socket in it: {error.strerror}")
             return
         if self.listening is None:
             self.tell(f"nights of {self.folder} go to another process that serves it")
