@@ -23,7 +23,7 @@ from .shop import SHOP, carried_out
 from .stand_in import spoil
 
 COME = b"#,id,day,region\n1,8,Thursday,south\n"
-SOLD = b'#,id,product,pieces\n1,8,"tea, black",2\n1,8,jam,1\n-1,4,jam,2\n'
+SOLD = b'#,id,product,pieces\n1,8,"tea, black",2\n1,8,jam,1\n-1,1,bread,2\n'
 PRICES = b"#,product,price\n-1,jam,475\n1,jam,500\n"
 TIME = re.compile(r"time: .*\n")
 
@@ -70,6 +70,7 @@ class Two:
         self.put(**changes)
         found = self.ran(self.one, *words)
         assert found == self.ran(self.other, *words)
+        assert (found[0] == "0") == is_computed
         assert version(self.one) == version(self.other)
         assert self.server.nights == counted + is_computed
         return found
