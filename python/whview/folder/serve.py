@@ -1,7 +1,8 @@
 """`serve`: a folder for those who read, over HTTP, on the loopback interface unless another address is asked for.
 
-Nothing is written, and no request waits for a night: each holds the version that it reads. Pages of the newest versions come from the memory
-of `whview live`, which stays beside the folder. Where it is not there, is at work, or is not as it should be, the same comes from files.
+No version is written, and no request waits for a night: each holds the version that it reads. Pages of the newest versions come from the
+memory of `whview live`, which stays beside the folder. Where it is not there, is at work, or is not as it should be, the same comes from
+files. Nights of the folder are computed by another one, which `night` asks at a socket in the folder.
 
 GET /VIEW takes these fields, as `read` does:
 where=COLUMN=VALUE, or with !=, <, <=, > or >=, several times; order=COLUMN or -COLUMN; columns=A,B; limit=L, 1,000 or up to 10,000;
