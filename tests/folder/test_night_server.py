@@ -5,20 +5,22 @@ import re
 import shutil
 import socket
 import stat
+import threading
+import time
 from contextlib import contextmanager
 from unittest import mock
 
 import pytest
 
 from trials.oracle.tables import bag_of
-from whview.folder import at_socket, computing, night_server
-from whview.folder.at_socket import Parted, connected, told_of
+from whview.folder import at_socket, computing, night_server, talk
+from whview.folder.at_socket import Parted, Wire, connected, told_of
 from whview.folder.memory import current_key
 from whview.folder.night_server import NightServer
-from whview.program import Chosen
+from whview.program import Chosen, temporary
 
 from .reckoner import reckons
-from .serving import until
+from .serving import LONG, until
 from .shop import SHOP, carried_out
 from .stand_in import spoil
 
@@ -111,6 +113,16 @@ def test_nights_are_those_of_a_folder_that_is_not_served(two):
         assert (server.nights, server.begun, two.told) == (3, 1, [])
         assert server.computing.rows == computing.told_after(two.one / "current")
     assert not (two.one / ".served").exists()
+
+
+def test_a_version_that_is_rolled_back_to_is_gone_on_from(two):
+    with two.served() as server:
+        two.night("--commit", orders=COME)
+        for folder in (two.one, two.other):
+            assert carried_out(["rollback", folder, 1])[0] == 0
+        until(lambda: server.begun == 2)
+        two.night("--commit", orders=COME, lines=SOLD)
+        assert (server.nights, two.told) == (2, [])
 
 
 def test_a_night_that_is_not_kept_is_given_up(two):
@@ -214,6 +226,27 @@ def test_what_is_no_message_is_not_answered(two):
                 wire.receive()
             wire.close()
         two.night("--commit", orders=COME)
+
+
+def test_who_takes_long_is_waited_for_as_long_as_signs_come():
+    one, other = map(Wire, socket.socketpair())
+    answering = threading.Thread(target=lambda: [other.beat() or time.sleep(0.2) for _ in range(6)] and other.send({"done": 1}, b"it is"))
+    answering.start()
+    assert one.receive(0.5) == ({"done": 1, "bytes": 5}, b"it is")
+    answering.join()
+    with pytest.raises(Parted):
+        one.receive(0.1)
+    other.close()
+    one.close()
+
+
+def test_while_a_program_takes_long_others_are_told(script):
+    signs = []
+    with temporary() as opening, mock.patch.object(talk, "TURN", 0.05):
+        found = talk.Talk(script("read line; sleep 0.5; echo closed"), opening, [])
+        assert found.ask(b"close 0\n", LONG, lambda: signs.append(1)) == b"closed\n"
+    assert len(signs) > 2
+    found.end()
 
 
 def test_parts_end_where_a_night_does(two):

@@ -119,12 +119,13 @@ def connected(folder: Path) -> Wire | None:
     try:
         with within(folder) as path:
             connection.connect(f"{path}/{SOCKET}")
-        wire = Wire(connection)
-        if wire.is_own():
-            return wire
     except OSError:
-        pass
-    connection.close()
+        connection.close()
+        return None
+    wire = Wire(connection)
+    if wire.is_own():
+        return wire
+    wire.close()
     return None
 
 
