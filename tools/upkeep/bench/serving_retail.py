@@ -1,7 +1,8 @@
 """Nights of 28 rows over 25 MB of a shop chain with fifteen views, side by side: in one folder that is served and in a copy that is not, each in
-turn with the same changes. By the clock, from the command's beginning to its end.
+turn with the same changes: by the clock, from the command's beginning to its end, and in processor seconds of the command and what it starts.
 """
 
+import resource
 import shutil
 import subprocess
 import tempfile
@@ -9,6 +10,7 @@ import time
 from contextlib import contextmanager
 from pathlib import Path
 from statistics import median
+from typing import NamedTuple
 
 from trials.drawn import retail
 from upkeep.words import ROOT, program
@@ -16,12 +18,25 @@ from upkeep.words import ROOT, program
 MEGABYTES, NIGHTS, SOON = 25, 9, 120
 
 
-def night(built: Path, folder: Path) -> float:
-    """How many seconds a night takes that is kept."""
+class Took(NamedTuple):
+    """Seconds by the clock, and of a processor."""
+
+    clock: float
+    worked: float
+
+
+def worked() -> float:
+    """The processor seconds of all commands that have ended."""
+    used = resource.getrusage(resource.RUSAGE_CHILDREN)
+    return used.ru_utime + used.ru_stime
+
+
+def night(built: Path, folder: Path) -> Took:
+    """What a night takes that is kept."""
     words = [ROOT / "whview", "folder", "night", folder, "--commit", "--keep", "2", "--program", built]
-    began = time.perf_counter()
+    began, before = time.perf_counter(), worked()
     subprocess.run(words, check=True, stdout=subprocess.DEVNULL, stderr=subprocess.DEVNULL)
-    return time.perf_counter() - began
+    return Took(time.perf_counter() - began, worked() - before)
 
 
 @contextmanager
@@ -47,7 +62,7 @@ def await_computed(built: Path, folder: Path, other: Path, drawn: retail.Retail)
     raise TimeoutError("no night was computed by the process that serves its folder")
 
 
-def both(built: Path, folder: Path, other: Path, drawn: retail.Retail) -> tuple[float, float]:
+def both(built: Path, folder: Path, other: Path, drawn: retail.Retail) -> tuple[Took, Took]:
     """What the next night takes in each folder."""
     changes = drawn.night(1)
     for each in (folder, other):
@@ -66,6 +81,11 @@ def measure(asked) -> None:
         with served(built, folder):
             await_computed(built, folder, other, drawn)
             times = [both(built, folder, other, drawn) for _ in range(NIGHTS)]
-    one, two = (median(each) for each in zip(*times))
-    ratio = median(first / second for first, second in times)
-    print(f"    nights of 28 rows over {MEGABYTES} MB: {one:.2f} s served, {two:.2f} s not; {ratio:.2f} times, medians of {NIGHTS}", flush=True)
+    print(f"    nights of 28 rows over {MEGABYTES} MB, medians of {NIGHTS}: {told(times, 0)} by the clock, {told(times, 1)} of a processor", flush=True)
+
+
+def told(times: list[tuple[Took, Took]], kind: int) -> str:
+    """The medians of both folders, and of what the one takes over the other."""
+    served_ones, others = ([each[place][kind] for each in times] for place in (0, 1))
+    ratio = median(one / other for one, other in zip(served_ones, others))
+    return f"{median(served_ones):.2f} s served and {median(others):.2f} s not ({ratio:.2f} times)"
