@@ -1,20 +1,26 @@
 """Runs the program on each beginning of some inputs, cut at every byte, and compares the answer with the one that the formats give.
 
-The inputs are of all commands: the stored input and some bundles, some of whose parts stand in another order. What a beginning has to be
-answered is worked out from its text alone, by trials/oracle/cut_inputs.py; the verdict on a plan is that of a judge of trees, a night's tables
+The inputs are of all commands: the stored input and some bundles, some of whose parts stand in another order. Of those that end in rows
+also the last part stands in a file of its own, which is cut at every byte. What a beginning has to be answered is worked out from its text
+alone, by trials/oracle/cut_inputs.py; the verdict on a plan is that of a judge of trees, a night's tables
 are an evaluator's, and the replies of a schedule a machine's.
 """
 
 import subprocess
 from concurrent.futures import ThreadPoolExecutor
+from pathlib import Path
+from tempfile import TemporaryDirectory
 
 from trials.bundles import examples
 from trials.ended import ended, told
 from trials.oracle.cut_inputs import Carried, CarriedBesideReaders, Certified, Checked, Planned, Replayed
+from trials.program.case_groups.filed import escaped
 from upkeep.words import ROOT, program, words_with_program
 from whview.bundle import pieces
 
 COMMANDS = ("check", "plan", "certify", "night", "replay")
+# What of inputs is said whose last part has rows.
+ENDING = ("with its data last", "with its changes last")
 EXAMPLES = {example.name: example for example in examples()}
 
 
@@ -82,13 +88,39 @@ def mistakes(started, given):
     ]
 
 
+def mistakes_in_files(started, given):
+    """For each beginning of the last part's lines, which stand in a file, what is answered otherwise than in the bundle, or None."""
+    above, sign, last = given.given.rpartition("\n@")
+    heading, _, lines = last.partition("\n")
+    words, _, above = f"{above}{sign}{heading}".partition("\n")
+    cuts = [lines[:length] for length in range(len(lines) + 1)]
+    wanted = [given.expected(f"{words}\n{above}\n{escaped(cut.encode()).decode()}") for cut in cuts]
+    with TemporaryDirectory() as room, ThreadPoolExecutor(max_workers=2) as runners:
+        answers = list(runners.map(lambda cut: filed_answer(started, words, Path(room, str(len(cut))), f"{above} < rows\n", cut), cuts))
+    return [
+        None if got == right else f"a file with the first {len(cut)} bytes of {given.what} answered {got} where the formats say {right}"
+        for cut, got, right in zip(cuts, answers, wanted)
+    ]
+
+
+def filed_answer(started, words, room, bundle, rows):
+    """What the program prints of a bundle that names a file with these rows, and its status."""
+    room.mkdir()
+    (room / "rows").write_text(rows, newline="")
+    (room / "bundle").write_text(bundle, newline="")
+    ran = subprocess.run([started, *words.split(), "--input", room / "bundle"], capture_output=True, timeout=60)
+    return ran.stdout.decode(errors="replace"), ran.returncode
+
+
 def main():
     given = words_with_program(__doc__)
     given.add_argument("--only", choices=COMMANDS, action="append", help="the inputs of this command, and of others named so")
     asked = given.parse_args()
     started, status = program(asked.program), 0
     for command in asked.only or COMMANDS:
-        found = [wrong for each in inputs() if each.command == command for wrong in mistakes(started, each)]
+        asked_so = [each for each in inputs() if each.command == command]
+        found = [wrong for each in asked_so for wrong in mistakes(started, each)]
+        found += [wrong for each in asked_so if each.what.endswith(ENDING) for wrong in mistakes_in_files(started, each)]
         wrongs = [wrong for wrong in found if wrong]
         told(wrongs)
         status |= ended(f"cuts of {command}", len(found), len(wrongs))

@@ -4,7 +4,8 @@ disk is full after so many bytes.
 
 A refused allocation or start ends in the run's own answer or in `memory` and 4, a failed read in `fault read` and 3, a failed write
 in 5, and one of these that is interrupted in that or in the run's own answer. Where reads and writes go by a few bytes at a time
-the answer is the run's own, and what a full disk takes is its beginning. Of a run with very many allocations only some, evenly spread,
+the answer is the run's own, and what a full disk takes is its beginning. Where parts stand in files of their own, a failed read of one
+ends in `fault read` and its name, and each file is told so by some refusal. Of a run with very many allocations only some, evenly spread,
 are refused, and fewer of the schedules, but for the examples of each command, of which all are.
 
 So is each call for memory and each start of a thread of some tests, which then try again: a refused night leaves what a desk reads beside
@@ -22,6 +23,7 @@ from trials.bundles import examples
 from trials.ended import ended, told
 from trials.program.refusing import built_library, refusing
 from upkeep.words import ROOT, program, words_with_program
+from whview.bundle import pieces
 
 MOST = {"malloc": 600, "memory": 60}
 # Examples of which every call is refused, and what is enough of other schedules.
@@ -70,6 +72,10 @@ class Run:
         size = len(self.answer[0])
         yield from (("full", room) for room in sorted({0, 1, size // 2, size - 1} & set(range(size))))
 
+    def silent(self):
+        """The files that should have been told of by some refusal and were not: a run without parts in files has none."""
+        return []
+
     def is_allowed(self, kind, answer):
         """Whether there may be this answer where a call of this kind is refused."""
         match kind:
@@ -97,6 +103,43 @@ class Run:
         if not marked or letters.strip("x"):
             return f"{kind} {number} of {self}: standard error has {letters!r}"
         return None if self.is_allowed(kind, answer) else f"{kind} {number} of {self}: {answer}"
+
+
+class FiledRun(Run):
+    """A run over a bundle whose rows stand in files: a failed read tells the file that it is of."""
+
+    def __init__(self, program, library, words, given, files):
+        self.files = files
+        super().__init__(program, library, words, given)
+
+    def is_allowed(self, kind, answer):
+        reads = [(f"fault read {file}\n".encode(), 3) for file in self.files]
+        return super().is_allowed(kind, answer) or kind in ("read", "interrupt") and answer in reads
+
+    def silent(self):
+        """The files that no failed read is told of."""
+        told = [self.refused("read", number)[0][0] for number in range(1, self.calls["r"] + 1)]
+        return [file for file in self.files if f"fault read {file}\n".encode() not in told]
+
+
+def filed_runs(program, library, folder):
+    """Runs over bundles whose tables and changes stand in files of their own, which are put into the folder."""
+    for name in ("night_two_tables", "replay_two_nights"):
+        example = next(example for example in examples() if example.name == name)
+        room, bundle, files = folder / name, [], []
+        room.mkdir()
+        for part in pieces(example.bundle):
+            heading, _, lines = part.partition(b"\n")
+            if heading.startswith((b"@data ", b"@changes ")):
+                files.append(f"{len(files)}.csv")
+                (room / files[-1]).write_bytes(lines)
+                part = heading + f" < {files[-1]}\n".encode()
+            bundle.append(part)
+        (room / "bundle").write_bytes(b"".join(bundle))
+        run = FiledRun(program, library, [*example.words, "--input", str(room / "bundle")], folder / "nothing", files)
+        if run.answer != Run(program, library, example.words, example.path).answer:
+            raise AssertionError(f"{run} is answered otherwise than with its rows in place: {run.answer}")
+        yield run
 
 
 class TestRun(Run):
@@ -136,6 +179,7 @@ def runs(program, library, folder):
     yield Run(program, library, ["night", "--workers", "16", "--readers", "16"], ROOT / "examples/night_shop.bundle", FEW)
     yield Run(program, library, ["check", "--comp-cost", "1"], bundle)
     yield Run(program, library, ["check", "--comp-cost", "0"], bundle)
+    yield from filed_runs(program, library, folder)
     yield Run(program, library, ["--help"], bundle)
     yield Run(program, library, ["night", "--help"], bundle)
     for command in ("check", "plan", "certify", "night", "replay"):
@@ -152,6 +196,7 @@ def main():
             for run in runs(started, library, Path(name)):
                 refusals = list(run.refusals())
                 tried.update(kind for kind, _ in refusals)
+                found += [f"no failed read of {run} tells of {file}" for file in run.silent()]
                 jobs += [workers.submit(mistakes, run, refusals[part : part + 50]) for part in range(0, len(refusals), 50)]
             for job in jobs:
                 found += job.result()
