@@ -27,8 +27,9 @@ from .talk import Lost, Talk
 OPENING, NIGHT, PATIENCE, WAIT = 600, 120, 2, 0.05
 # How many rows are asked for at a time; the program gives one more.
 CHUNK = 255
-# Of a table up to so many rows, or up to this part of all, may change in a night that is given to the program.
-FEW, PART = 1000, 4
+# Of a table up to so many rows may change in a night that is given to the program, or up to this part of all, and never more than so many: to
+# find more of them takes longer than to load the table.
+FEW, PART, MANY = 1000, 4, 10_000
 STEPS = re.compile(rb"begun\n(?:(?:job [0-9]+|done|paged [0-9]+)\n)*ready\n")
 SESSION = re.compile(rb"session ([0-9]+)\n")
 
@@ -239,6 +240,6 @@ def changed(table: KeptTable, other: KeptTable) -> tuple[KeptTable, Change] | No
     if table.is_same(other):
         other.places = table.places
         return None
-    change = table.change_to(other, max(FEW, table.places.count // PART))
+    change = table.change_to(other, max(FEW, min(table.places.count // PART, MANY)))
     other.places = change.places
     return (other, change) if change.rows else None
