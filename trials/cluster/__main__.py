@@ -63,7 +63,8 @@ IN_A_ROW, PART = 6, 3
 # From so many nights on, so many have to be refused in each way.
 MANY, EACH_WAY = 100, 10
 REFUSED = tuple(f"refused {each}" for each in sorted({*REFUSALS}))
-PARTS = ("nights", "steps", "lost", "aside", "repaired", "backups", "recasts", "replicas", "newest", "cut_off", "spoilt", "kills", "beside", "together", "waiting", "inputs", "page")
+PARTS = ("nights", "steps", "lost", "aside", "repaired", "backups", "recasts", "replicas", "newest", "cut_off", "spoilt", "kills", "beside", "together", "waiting",
+         "inputs", "page")
 
 
 class Trial:

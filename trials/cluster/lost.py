@@ -234,7 +234,10 @@ def other_addresses(processes):
 # ---- who may only read
 
 
-READERS = """<reader><readonly>1</readonly><skip_unavailable_shards>0</skip_unavailable_shards></reader><hasty_reader><readonly>1</readonly><skip_unavailable_shards>1</skip_unavailable_shards></hasty_reader>"""
+READERS = (
+    "<reader><readonly>1</readonly><skip_unavailable_shards>0</skip_unavailable_shards></reader>"
+    "<hasty_reader><readonly>1</readonly><skip_unavailable_shards>1</skip_unavailable_shards></hasty_reader>"
+)
 NAMES = ("reader", "hasty_reader")
 USER = "<{name}><password></password><networks><ip>127.0.0.1</ip></networks><profile>{name}</profile><quota>default</quota></{name}>"
 

@@ -65,7 +65,7 @@ def by_every_server(processes):
     wrong = right(tried, processes.all, "behind an opening", WHO)
     newest, said = [[str(tried.replicas().chosen().versions.newest().seq)]], f'SELECT max(seq) FROM "{tried.small.database}"."~versions"'
     wrong += [f"{each.address} lists for {user}: {rows}" for each in processes.all for user in WHO
-              if (rows := Server(each.address, Key(user, "")).asked(said)) != newest]  # fmt: skip
+              if (rows := Server(each.address, Key(user, "")).asked(said)) != newest]
     tried.night(tried.small.changes({(1, 6): 1, (2, 8): 1}, {(2, "elm"): 1}))
     wrong += right(tried, processes.all, "behind a night")
     gone, left = tried.of_shard(0), tried.of_shard(1)

@@ -45,4 +45,4 @@ SPOILT_LOSSES = [
     Spoilt("all servers asked for what the first one has", [(command, "OF_FIRST", ("status",))], lost.without_the_others),
     Spoilt("addresses told and not kept", [(moving, "keep", lambda *_: None)], lost.other_addresses),
     Spoilt("settings of one who may only read", [(Server, "learn", learnt_as_others)], lost.who_may_only_read),
-]  # fmt: skip
+]
