@@ -18,6 +18,7 @@ import itertools
 import random
 import re
 import signal
+import subprocess
 import sys
 from collections import Counter
 from contextlib import ExitStack
@@ -159,6 +160,11 @@ class Trial:
         self.on(2, lambda processes: self.scenarios(processes.servers(), RECASTS))
         return f"{len(RECASTS)} rows of recasts"
 
+    def turn(self, listed):
+        """The spoilt ones that have their turn: all of these, or so many, which the newest commit draws."""
+        count = self.asked.spoilt
+        return listed if count is None else random.Random(newest_commit()).sample(listed, min(count, len(listed)))
+
     def replicas(self):
         """Shards of two servers each, of which one is killed."""
         if not zookeeper():
@@ -167,10 +173,11 @@ class Trial:
         source = random.Random(self.asked.seed)
         wrong, struck = self.on(4, lambda processes: self.caught(lambda: drawn_kills(processes, source, self.asked.kills), 2), ZooKeeper)
         self.wrong += wrong
-        left = self.on(4, lambda processes: [each.name for each in SPOILT_REPLICAS if not is_noticed(each, processes, processes.restart)], ZooKeeper)
+        spoilt = self.turn(SPOILT_REPLICAS)
+        left = self.on(4, lambda processes: [each.name for each in spoilt if not is_noticed(each, processes, processes.restart)], ZooKeeper)
         self.wrong += [f"not noticed: {name}" for name in left]
         told = f"{len(REPLICATED)} rows of replicas, {self.asked.kills} with one of each shard killed ({struck} servers amid something)"
-        return f"{told}, {len(SPOILT_REPLICAS) - len(left)} of {len(SPOILT_REPLICAS)} spoilt ones noticed"
+        return f"{told}, {len(spoilt) - len(left)} of {len(spoilt)} spoilt ones noticed"
 
     def newest(self):
         """What readers by SQL are given of shards of two servers each."""
@@ -190,10 +197,11 @@ class Trial:
 
     def spoilt(self):
         """Spoilt scripts and clients."""
-        left = self.on(2, lambda processes: [each.name for each in SPOILT if not is_noticed(each, processes.servers())])
-        left += self.on(2, lambda processes: [each.name for each in SPOILT_LOSSES if not is_noticed(each, processes, processes.restart)])
+        spoilt, losses = self.turn(SPOILT), self.turn(SPOILT_LOSSES)
+        left = self.on(2, lambda processes: [each.name for each in spoilt if not is_noticed(each, processes.servers())])
+        left += self.on(2, lambda processes: [each.name for each in losses if not is_noticed(each, processes, processes.restart)])
         self.wrong += [f"not noticed: {name}" for name in left]
-        count = len(SPOILT) + len(SPOILT_LOSSES)
+        count = len(spoilt) + len(losses)
         return f"{count - len(left)} of {count} spoilt ones noticed"
 
     def kills(self):
@@ -244,6 +252,11 @@ class Trial:
         return "docs/CLUSTER.md"
 
 
+def newest_commit():
+    """The name of the newest commit, or nothing where there is none."""
+    return subprocess.run(["git", "rev-parse", "HEAD"], cwd=ROOT, capture_output=True, text=True).stdout.strip()
+
+
 def page_mistakes(processes):
     """What the commands of the page print, where it is not what the page says. The page's server has the port 8123."""
     found = pages.blocks_of("CLUSTER.md")
@@ -260,6 +273,7 @@ def words():
     given = words_with_program(__doc__, COUNT, SEED)
     given.add_argument("--part", action="append", choices=PARTS, help="what is tried alone")
     given.add_argument("--kills", type=int, default=2, help="how many servers are killed, and how many clients (%(default)s)")
+    given.add_argument("--spoilt", type=int, help="how many spoilt ones of each kind are tried, which the newest commit draws (all)")
     given.add_argument("--seconds", type=int, default=6, help="how long clients work side by side (%(default)s)")
     given.add_argument("--minutes", type=float, default=1, help="how long all of it is drawn together (%(default)s)")
     return given.parse_args()
